@@ -1,0 +1,1 @@
+// The acceptance sheet as theorems: no function, only laws, in proofs/.

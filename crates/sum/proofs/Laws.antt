@@ -1,0 +1,27 @@
+-- What the layers above may use of the sum: how large it is, how it goes on, and that its promise leaves one answer.
+-- They cite these laws, the statements of specs/Detection and `crc32-computes`, and never open the definition.
+use mathlib.Core.Path.{_≡_, refl, sym, _∙_}
+use mathlib.Core.List.{List, [], _∷_, _++_}
+use Prim.Native.Nat.{ℕ, _^_, _<_}
+use lib.Bits.{xor-lt}
+use lib.Dec.{lit<}
+use Rattle.sum.specs.Crc.{allOnes, byteStep, stateAfter, crc32}
+use Rattle.sum.specs.Detection.{Bytes}
+use Rattle.sum.specs.Promise.{Only₁, Sums}
+use Rattle.sum.proofs.Sums.{stateAfter-lt}
+
+-- a sum has 32 bits
+pub crc32-lt : (bytes : List ℕ) → Bytes bytes → crc32 bytes < 2 ^ 32
+unfolding crc32
+crc32-lt bytes h =
+    xor-lt 32 (stateAfter allOnes bytes) allOnes (stateAfter-lt bytes allOnes h (lit< tt)) (lit< tt)
+
+-- the state after a ++ b is the state after b, from the state after a
+pub stateAfter-append : (state : ℕ) (a b : List ℕ) → stateAfter state (a ++ b) ≡ stateAfter (stateAfter state a) b
+unfolding stateAfter
+stateAfter-append state [] b = refl
+stateAfter-append state (x ∷ a) b = stateAfter-append (byteStep state x) a b
+
+-- one answer alone keeps the promise of `crc`
+pub only-sums : Only₁ Sums
+only-sums bytes a b p q = p ∙ sym q

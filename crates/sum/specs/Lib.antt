@@ -1,0 +1,4 @@
+pub mod Crc
+pub mod Promise
+pub mod Detection
+pub mod Vectors
