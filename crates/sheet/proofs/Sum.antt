@@ -1,5 +1,7 @@
 -- The integrity sum as the acceptance sheet speaks of it: each line names a theorem that the crate `sum` proves.
 -- Demand 3 rests on the second and the third.
+use mathlib.Core.List.{List}
+use Prim.Native.Nat.{ℕ}
 use Rattle.sum.specs.Detection.{DetectsFourBytes, DetectsBits}
 use Rattle.sum.specs.Promise.{Only₁, Sums}
 use Rattle.sum.specs.Vectors.{Vectors}
@@ -8,7 +10,7 @@ use Rattle.sum.proofs.Computed.{vectors}
 use Rattle.sum.proofs.Laws.{only-sums}
 
 -- any bytes have one sum, and `crc` answers no other
-pub the-sum-is-one-answer : Only₁ Sums
+pub the-sum-is-one-answer : (bytes : List ℕ) → Only₁ (Sums bytes)
 the-sum-is-one-answer = only-sums
 
 -- a change inside four neighbouring bytes changes the sum

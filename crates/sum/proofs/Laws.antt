@@ -23,5 +23,5 @@ stateAfter-append state [] b = refl
 stateAfter-append state (x ∷ a) b = stateAfter-append (byteStep state x) a b
 
 -- one answer alone keeps the promise of `crc`
-pub only-sums : Only₁ Sums
+pub only-sums : (bytes : List ℕ) → Only₁ (Sums bytes)
 only-sums bytes a b p q = p ∙ sym q

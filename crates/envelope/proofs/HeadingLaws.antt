@@ -1,0 +1,78 @@
+-- What a heading that passed says, and that heading and announced length look at the first 17 bytes alone.
+-- The layers above cite these laws and not the definitions.
+use mathlib.Core.Bool.{Bool, true, false, cond, not, _&&_}
+use mathlib.Core.Path.{_≡_, refl}
+use mathlib.Core.List.{List}
+use Prim.Native.Nat.{ℕ, _≤_, _<_, _+_, _/_}
+use native.Mathlib.Omega.{arith}
+use borrow.Author.Tests.{le-leb, leb-false, ltb-false, eqb-false}
+use lib.Dec.{leb, ltb, eqb}
+use lib.ListN.{take}
+use lib.Seq.{getD-take}
+use Rattle.envelope.specs.Flags.{kindOf, kindUnassigned, badFlags}
+use Rattle.envelope.specs.Heading.{flagsOf, variableSize, dataLength, announced, wrongVersion, badVariableSize, Judged, passed, broken, heading}
+use Rattle.envelope.specs.Layout.{headerSize, fieldSize, largestVariable}
+use Rattle.envelope.specs.Numbers.{byteAt, threeAt}
+use Rattle.envelope.proofs.BoolLaws.{neither, true-is-not-false}
+
+pub announced-is : (s : List ℕ) → announced s ≡ headerSize + variableSize s + dataLength s + fieldSize
+unfolding announced
+announced-is s = refl
+
+-- ---- a heading that passed
+
+pub record Passed (s : List ℕ) : Type 0 where
+  pub version : wrongVersion s ≡ false
+  pub flags : badFlags (flagsOf s) ≡ false
+  pub size : badVariableSize (variableSize s) ≡ false
+
+past : (b : Bool) (n : ℕ) (rest : Judged) → cond b (broken n) rest ≡ passed → (b ≡ false) × (rest ≡ passed)
+past true n rest e = (cc, cc)
+past false n rest e = (refl, e)
+
+pub heading-passed : (s : List ℕ) → heading s ≡ passed → Passed s
+unfolding heading
+heading-passed s e =
+    let p2 = past (wrongVersion s) 2 _ e in
+    let p3 = past (badFlags (flagsOf s)) 3 _ (p2 .1) in
+    let p4 = past (badVariableSize (variableSize s)) 4 _ (p3 .1) in
+    record { version = p2 .0; flags = p3 .0; size = p4 .0 }
+
+pub passed-heading : (s : List ℕ) → Passed s → heading s ≡ passed
+unfolding heading
+passed-heading s h = rw (h .version, h .flags, h .size)
+
+-- flags that are not refused have an assigned kind
+pub kind-assigned : (flags : ℕ) → badFlags flags ≡ false → kindOf flags < kindUnassigned
+unfolding badFlags
+kind-assigned flags e =
+    let n = eqb-false (kindOf flags) kindUnassigned (neither (not (eqb (flags / 32) 0)) (eqb (kindOf flags) kindUnassigned) e .1) in
+    omega arith
+
+-- a size that is not refused is 0, or 6 to 132
+pub size-least : (v : ℕ) → badVariableSize v ≡ false → (v ≡ 0 → ⊥) → 6 ≤ v
+unfolding badVariableSize
+size-least v e n = go (leb v 5) refl
+  where
+    go : (b : Bool) → leb v 5 ≡ b → 6 ≤ v
+    go true q = absurd (true-is-not-false refl (rw (le-leb 1 v (omega arith), q) at e))
+    go false q = omega (arith, leb-false v 5 q)
+
+pub size-most : (v : ℕ) → badVariableSize v ≡ false → v ≤ largestVariable
+unfolding badVariableSize
+size-most v e = ltb-false largestVariable v (neither (leb 1 v && leb v 5) (ltb largestVariable v) e .1)
+
+-- ---- the first 17 bytes alone
+
+byte-of-front : (s : List ℕ) (n i : ℕ) → i < n → byteAt (take n s) i ≡ byteAt s i
+byte-of-front s n i h = getD-take n s i 0 h
+
+pub announced-by-heading : (s : List ℕ) → announced (take headerSize s) ≡ announced s
+unfolding announced threeAt
+announced-by-heading s =
+    rw (byte-of-front s headerSize 16 (omega arith), byte-of-front s headerSize 5 (omega arith), byte-of-front s headerSize 6 (omega arith), byte-of-front s headerSize 7 (omega arith))
+
+pub heading-by-heading : (s : List ℕ) → heading (take headerSize s) ≡ heading s
+unfolding heading
+heading-by-heading s =
+    rw (byte-of-front s headerSize 0 (omega arith), byte-of-front s headerSize 4 (omega arith), byte-of-front s headerSize 16 (omega arith))

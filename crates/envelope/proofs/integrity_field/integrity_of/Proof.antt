@@ -1,0 +1,58 @@
+-- `integrity_field::integrity_of` is rule 7: each kind has its own test, and an application may hold any number.
+use mathlib.Core.Path.{_≡_, sym, _∙_}
+use native.Mathlib.Omega.{arith}
+use borrow.Author.Needs.{needs}
+use borrow.Author.Tests.{eq-eqb, ne-eqb}
+use lib.Seq.{length-take-le}
+use Rattle.envelope.specs.IntegrityField.{badIntegrity}
+use Rattle.envelope.specs.Reading.{integrityOf}
+use Rattle.envelope.proofs.integrity_field.integrity_of.Statement.{statement}
+use Rattle.envelope.proofs.integrity_field.integrity_of.Tie as tie
+
+four-at-requires : tie.Need-four-at-requires
+four-at-requires c κs = search needs
+
+returns : tie.Need-returns
+unfolding badIntegrity integrityOf
+returns c = rw (c .before .if1 .taken, sym (c .before .before .four-at .ensures) ∙ c .if2 .taken)
+
+returns-2 : tie.Need-returns-2
+unfolding badIntegrity integrityOf
+returns-2 c = rw (c .before .if1 .taken, ne-eqb _ _ (λ e. c .if2 .left (c .before .before .four-at .ensures ∙ e)))
+
+slice-aggregate-crc : tie.Need-slice-aggregate-crc
+slice-aggregate-crc c = sym (length-take-le _ _ (omega arith))
+
+crc-requires : tie.Need-crc-requires
+crc-requires c κs = search needs
+
+returns-3 : tie.Need-returns-3
+unfolding badIntegrity integrityOf
+returns-3 c =
+    let held = c .before .before .before .before .before .four-at .ensures in
+    rw (c .before .before .before .if3 .taken, eq-eqb _ _ (sym held ∙ c .if4 .taken ∙ c .before .crc .ensures), held)
+
+returns-4 : tie.Need-returns-4
+unfolding badIntegrity integrityOf
+returns-4 c =
+    let held = c .before .before .before .before .before .four-at .ensures in
+    rw (c .before .before .before .if3 .taken, ne-eqb _ _ (λ e. c .if4 .left (held ∙ e ∙ sym (c .before .crc .ensures))))
+
+returns-5 : tie.Need-returns-5
+unfolding badIntegrity integrityOf
+returns-5 c =
+    let k : c .before .before .before .before .args .kind ≡ 2 = omega arith in
+    rw (k, c .before .before .four-at .ensures)
+
+pub integrity-of-spec : {M : Type 1} → statement M
+integrity-of-spec =
+    tie.close
+    (tie.spec
+    four-at-requires
+    returns
+    returns-2
+    slice-aggregate-crc
+    crc-requires
+    returns-3
+    returns-4
+    returns-5)

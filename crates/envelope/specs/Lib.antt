@@ -1,0 +1,13 @@
+pub mod Numbers
+pub mod Layout
+pub mod Flags
+pub mod Addresses
+pub mod IntegrityField
+pub mod Fields
+pub mod Heading
+pub mod Reading
+pub mod Told
+pub mod Helpers
+pub mod Qos
+pub mod Lateness
+pub mod Sequence

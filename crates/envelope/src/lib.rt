@@ -1,0 +1,21 @@
+// EMP envelopes: reading any bytes, and what an accepted envelope tells (QoS, lateness, sequence).
+// Rests on the crate `sum`, by its promise alone.
+mod addresses;
+pub mod fields;
+mod flags;
+mod integrity_field;
+pub mod lateness;
+pub mod numbers;
+pub mod qos;
+pub mod reader;
+pub mod sequence;
+
+pub use crate::fields::Addressing;
+pub use crate::fields::Envelope;
+pub use crate::fields::Header;
+pub use crate::fields::Integrity;
+pub use crate::fields::Part;
+pub use crate::reader::Fault;
+pub use crate::reader::Reading;
+pub use crate::reader::Refusal;
+pub use crate::reader::read;

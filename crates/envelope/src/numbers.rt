@@ -1,0 +1,56 @@
+// Big-endian numbers, from bytes by value and from a place of a slice.
+ghost use mathlib.Core.Path.{_≡_};
+ghost use Prim.Native.Nat.{_+_, _<_, _≤_};
+ghost use lib.ListN.{length};
+ghost use Rattle.envelope.specs.Numbers.{TwoBytes, ThreeBytes, FourBytes, twoAt, threeAt, fourAt};
+
+pub fn two_bytes(a: u8, b: u8) -> u16
+    ensures { λ r. ⌜ TwoBytes a b r ⌝ }
+{
+    (wide(a) * 256 + wide(b)) as u16
+}
+
+pub fn three_bytes(a: u8, b: u8, c: u8) -> u32
+    ensures { λ r. ⌜ ThreeBytes a b c r ⌝ }
+{
+    wide(a) * 65536 + wide(b) * 256 + wide(c)
+}
+
+pub fn four_bytes(a: u8, b: u8, c: u8, d: u8) -> u32
+    ensures { λ r. ⌜ FourBytes a b c d r ⌝ }
+{
+    wide(a) * 16777216 + wide(b) * 65536 + wide(c) * 256 + wide(d)
+}
+
+pub(crate) fn two_at(bytes: &[u8], place: usize) -> u16
+    requires { ⌜ place + 2 ≤ length (now bytes) ⌝ }
+    ensures { λ r. ⌜ r ≡ twoAt (now (bytes .entry)) place ⌝ }
+{
+    two_bytes(bytes[place], bytes[place + 1])
+}
+
+pub(crate) fn three_at(bytes: &[u8], place: usize) -> u32
+    requires { ⌜ place + 3 ≤ length (now bytes) ⌝ }
+    ensures { λ r. ⌜ r ≡ threeAt (now (bytes .entry)) place ⌝ }
+{
+    three_bytes(bytes[place], bytes[place + 1], bytes[place + 2])
+}
+
+pub(crate) fn four_at(bytes: &[u8], place: usize) -> u32
+    requires { ⌜ place + 4 ≤ length (now bytes) ⌝ }
+    ensures { λ r. ⌜ r ≡ fourAt (now (bytes .entry)) place ⌝ }
+{
+    four_bytes(
+        bytes[place],
+        bytes[place + 1],
+        bytes[place + 2],
+        bytes[place + 3],
+    )
+}
+
+// A byte with room to be multiplied.
+pub(crate) fn wide(byte: u8) -> u32
+    ensures { λ r. ⌜ (r ≡ byte) × (r < 256) ⌝ }
+{
+    byte as u32
+}

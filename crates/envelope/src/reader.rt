@@ -1,0 +1,138 @@
+// Reading: any bytes in, the envelope out, or the first rule that they break.
+ghost use mathlib.Core.Path.{_≡_};
+ghost use Prim.Native.Nat.{_≤_};
+ghost use lib.ListN.{length};
+ghost use Rattle.envelope.specs.Heading.{badVariableSize, heading, passed};
+ghost use Rattle.envelope.specs.Layout.{headerSize, leastSize};
+ghost use Rattle.envelope.specs.Reading.{headerOf, readingWhole};
+ghost use Rattle.envelope.specs.Told.{toldHeader, told, Reads};
+ghost use Rattle.envelope.specs.Helpers.{toldHeading};
+use crate::addresses::FoundAddressing;
+use crate::addresses::addressing_of;
+use crate::fields::Envelope;
+use crate::fields::Header;
+use crate::fields::Part;
+use crate::flags;
+use crate::integrity_field::FoundIntegrity;
+use crate::integrity_field::integrity_of;
+use crate::numbers::four_at;
+use crate::numbers::three_at;
+use crate::numbers::two_at;
+use crate::numbers::wide;
+
+// The rules of reading, in their order.
+pub enum Fault {
+    TooShort,
+    WrongVersion,
+    BadFlags,
+    BadVariableSize,
+    WrongLength,
+    BadAddresses,
+    BadIntegrity,
+}
+
+// Whoever passes a refusal on passes it on whole.
+pub struct Refusal {
+    pub fault: Fault,
+}
+
+pub enum Reading {
+    Accepted(Envelope),
+    Refused(Refusal),
+}
+
+enum Heading {
+    Passed,
+    Broken(Fault),
+}
+
+pub fn read(bytes: &[u8]) -> Reading
+    ensures { λ r. ⌜ Reads (now (bytes .entry)) r ⌝ }
+{
+    if bytes.len() < Envelope::LEAST {
+        return Reading::Refused(Refusal {
+            fault: Fault::TooShort,
+        });
+    }
+    match judge_heading(bytes) {
+        Heading::Broken(fault) => Reading::Refused(Refusal { fault }),
+        Heading::Passed => read_whole(bytes),
+    }
+}
+
+// Rules 2 to 4, on the header alone.
+fn judge_heading(bytes: &[u8]) -> Heading
+    requires { ⌜ headerSize ≤ length (now bytes) ⌝ }
+    ensures { λ r. ⌜ toldHeading r ≡ heading (now (bytes .entry)) ⌝ }
+{
+    if bytes[Envelope::VERSION_PLACE] != Envelope::VERSION {
+        return Heading::Broken(Fault::WrongVersion);
+    }
+    if flags::refused(bytes[Envelope::FLAGS_PLACE]) {
+        return Heading::Broken(Fault::BadFlags);
+    }
+    if variable_size_refused(bytes[Envelope::VARIABLE_SIZE_PLACE]) {
+        return Heading::Broken(Fault::BadVariableSize);
+    }
+    Heading::Passed
+}
+
+// Rules 5 to 7, on the whole message.
+fn read_whole(bytes: &[u8]) -> Reading
+    requires { ⌜ (leastSize ≤ length (now bytes)) × (heading (now bytes) ≡ passed) ⌝ }
+    ensures { λ r. ⌜ told r ≡ readingWhole (now (bytes .entry)) ⌝ }
+{
+    let v = wide(bytes[Envelope::VARIABLE_SIZE_PLACE]) as usize;
+    let d = three_at(bytes, Envelope::DATA_LENGTH_PLACE) as usize;
+    let place = Envelope::HEADER + v + d;
+    if place + Envelope::FIELD != bytes.len() {
+        return Reading::Refused(Refusal {
+            fault: Fault::WrongLength,
+        });
+    }
+    match addressing_of(bytes, v) {
+        FoundAddressing::Broken => Reading::Refused(Refusal {
+            fault: Fault::BadAddresses,
+        }),
+        FoundAddressing::Good(addressing) => {
+            match integrity_of(bytes, flags::kind(bytes[Envelope::FLAGS_PLACE]), place) {
+                FoundIntegrity::Broken => Reading::Refused(Refusal {
+                    fault: Fault::BadIntegrity,
+                }),
+                FoundIntegrity::Good(integrity) => {
+                    let body = Part {
+                        place: Envelope::HEADER + v,
+                        size: d,
+                    };
+                    Reading::Accepted(Envelope::new(header_of(bytes), addressing, body, integrity))
+                }
+            }
+        }
+    }
+}
+
+fn header_of(bytes: &[u8]) -> Header
+    requires { ⌜ headerSize ≤ length (now bytes) ⌝ }
+    ensures { λ r. ⌜ toldHeader r ≡ headerOf (now (bytes .entry)) ⌝ }
+{
+    Header {
+        message_type: two_at(bytes, Envelope::TYPE_PLACE),
+        version: bytes[Envelope::MESSAGE_VERSION_PLACE],
+        flags: bytes[Envelope::FLAGS_PLACE],
+        number: four_at(bytes, Envelope::NUMBER_PLACE),
+        time: four_at(bytes, Envelope::TIME_PLACE),
+    }
+}
+
+// Rule 4. The smallest variable header is a TTL, a QoS and two closing zeros: 6 bytes.
+fn variable_size_refused(v: u8) -> bool
+    ensures { λ r. ⌜ r ≡ badVariableSize v ⌝ }
+{
+    if v == 0 {
+        return false;
+    }
+    if v <= 5 {
+        return true;
+    }
+    (Envelope::VARIABLE as u8) < v
+}

@@ -1,0 +1,39 @@
+// From an old message number to a new one.
+ghost use Rattle.envelope.specs.Sequence.{Distance, JudgesSequence};
+use std::num::wrapping_sub_u32;
+
+// Half of the numbers there are: from here on a difference counts as backward.
+const HALF: u32 = 2147483648;
+
+pub enum Sequence {
+    Repeat,
+    Next,
+    Ahead(u32),
+    Behind(u32),
+}
+
+pub fn distance(old: u32, new: u32) -> i32
+    ensures { λ r. ⌜ Distance old new r ⌝ }
+{
+    let steps = wrapping_sub_u32(new, old);
+    if steps < HALF {
+        return steps as i32;
+    }
+    ((steps as i64) - 4294967296) as i32
+}
+
+pub fn judge(old: u32, new: u32) -> Sequence
+    ensures { λ r. ⌜ JudgesSequence old new r ⌝ }
+{
+    let steps = wrapping_sub_u32(new, old);
+    if steps == 0 {
+        return Sequence::Repeat;
+    }
+    if steps == 1 {
+        return Sequence::Next;
+    }
+    if steps < HALF {
+        return Sequence::Ahead(steps);
+    }
+    Sequence::Behind(wrapping_sub_u32(old, new))
+}
