@@ -4,3 +4,6 @@ pub mod AddressLaws
 pub mod HeadingLaws
 pub mod SequenceLaws
 pub mod QosLaws
+pub mod OnlyLaws
+pub mod PastedLaws
+pub mod WriteLaws

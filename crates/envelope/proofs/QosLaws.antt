@@ -1,12 +1,12 @@
 -- Splitting and joining a QoS field are inverse, both ways round.
 -- Each is a fact about division by the place of a number's lowest bit.
-use mathlib.Core.Bool.{Bool, true, false, cond, _&&_}
-use mathlib.Core.Path.{_≡_, refl, ap, ap₂, sym, _∙_}
+use mathlib.Core.Bool.{Bool, true, false, cond}
+use mathlib.Core.Path.{_≡_, refl, ap, _∙_}
 use Prim.Native.Nat.{ℕ, _+_, _*_, _/_, _%_, _<_}
 use native.Mathlib.Omega.{arith}
 use borrow.Author.Tests.{lt-ltb, ltb-true}
 use lib.Dec.{ltb}
-use Rattle.envelope.specs.Qos.{QosFields, splitting, fitsItsBits, QosAnswer, joined, refused, joining, JoinsWhatWasSplit, SplitsWhatWasJoined}
+use Rattle.envelope.specs.Qos.{splitting, fitsItsBits, joined, refused, joining, JoinsWhatWasSplit, SplitsWhatWasJoined}
 use Rattle.envelope.proofs.BoolLaws.{both}
 
 pub joins-what-was-split : JoinsWhatWasSplit

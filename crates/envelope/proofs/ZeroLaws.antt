@@ -1,16 +1,17 @@
 -- Laws of the first zero of a list: as a loop meets it, and of a list's front.
 -- Inductions on the list.
-use mathlib.Core.Bool.{Bool, true, false, cond}
-use mathlib.Core.Path.{_≡_, refl, ap}
+use mathlib.Core.Bool.{Bool, true, false, cond, _||_}
+use mathlib.Core.Path.{_≡_, refl, sym, ap, _∙_}
 use mathlib.Core.List.{List, [], _∷_, _++_}
 use Prim.Native.Nat.{ℕ, zero, suc, _≤_, _<_, _+_}
 use native.Mathlib.Numerals.{add-one}
 use native.Mathlib.Omega.{arith}
-use borrow.Author.Tests.{eq-eqb, ne-eqb}
-use lib.Dec.{eqb}
+use borrow.Author.Tests.{eq-eqb, ne-eqb, lt-ltb}
+use lib.Dec.{eqb, ltb, leb·suc-suc}
 use lib.ListN.{length, take, drop, getD, drop-of-length-le}
 use lib.Seq.{drop-cons}
 use Rattle.envelope.specs.Addresses.{firstZero}
+use Rattle.envelope.specs.Writing.{hasZero}
 
 pub zero-here : (s : List ℕ) (i : ℕ) → i < length s → getD s i 0 ≡ 0 → firstZero (drop i s) ≡ 0
 unfolding firstZero
@@ -42,3 +43,13 @@ zero-of-front [] zero h = refl
 zero-of-front [] (suc n) h = refl
 zero-of-front (b ∷ s) zero h = absurd (omega arith)
 zero-of-front (b ∷ s) (suc n) h = one-more (eqb b 0) (firstZero s) (firstZero (take n s)) n (zero-of-front s n) h
+
+-- a list has a zero where its first zero is inside it
+pub zero-inside : (s : List ℕ) → hasZero s ≡ ltb (firstZero s) (length s)
+unfolding hasZero firstZero
+zero-inside [] = refl
+zero-inside (b ∷ s) = inside-more (eqb b 0) (hasZero s) (firstZero s) (length s) (zero-inside s)
+  where
+    inside-more : (z h : Bool) (f l : ℕ) → h ≡ ltb f l → (z || h) ≡ ltb (cond z 0 (suc f)) (suc l)
+    inside-more true h f l e = sym (lt-ltb 0 (suc l) (omega arith))
+    inside-more false h f l e = e ∙ sym (leb·suc-suc (suc f) l)

@@ -1,6 +1,8 @@
 -- The paper's answers to reading, in plain numbers: the fields of an accepted message, or a refusal with its number and no fields.
 -- The code's own types are told in these, by specs/Told.
 use Prim.Native.Nat.{ℕ}
+use mathlib.Core.List.{List}
+use lib.ListN.{take, drop}
 
 -- a part of the bytes lent: its first place and its size
 pub record Span : Type 0 where
@@ -40,3 +42,7 @@ pub data Answer : Type 0 where
 -- the refusal of a rule
 abbrev pub refusal : ℕ → Answer
 refusal n = refused (record { number = n })
+
+-- the bytes of a part
+abbrev pub partOf : List ℕ → Span → List ℕ
+partOf s p = take (p .size) (drop (p .place) s)

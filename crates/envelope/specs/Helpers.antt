@@ -1,12 +1,15 @@
 -- Meanings of the private helpers' answers. Nothing that a public promise says is defined here.
 -- `unless b x` is nothing where the rule b is broken, and else x.
-use Prim.Native.Nat.{ℕ}
+use Prim.Native.Nat.{ℕ, _+_, _≤_, _<_}
 use mathlib.Core.Bool.{Bool, true, false}
-use mathlib.Core.List.{List}
+use mathlib.Core.List.{List, _++_}
 use mathlib.Core.Option.{Option, none, some}
+use lib.ListN.{length, take, drop}
 use Rattle.envelope.specs.Addresses.{sourceSize, destinationSize}
 use Rattle.envelope.specs.Fields.{AddressingFields, IntegrityFields}
 use Rattle.envelope.specs.Heading.{Judged, passed, broken}
+use Rattle.envelope.specs.Layout.{headerSize, routingSize, largestAddress, largestBody, fieldSize}
+use Rattle.envelope.specs.Message.{RoutingFields, unaddressed, addressed}
 use Rattle.envelope.specs.Told.{toldFault, toldAddressing, toldIntegrity}
 use Rattle.envelope.specs.declared.addresses.Ends.{Ends}
 use Rattle.envelope.specs.declared.addresses.Ends.the-variants as ends
@@ -43,3 +46,21 @@ toldFoundIntegrity (integrity.Good i) = some (toldIntegrity i)
 abbrev pub toldHeading : Heading → Judged
 toldHeading heading.Passed = passed
 toldHeading (heading.Broken f) = broken (toldFault f)
+
+-- ---- of the writer
+
+-- a list with a part put in from a place
+unfoldable pub pasted : List ℕ → ℕ → List ℕ → List ℕ
+pasted d place p = take place d ++ p ++ drop (place + length p) d
+
+-- the size of the variable header, for ends of these sizes
+abbrev pub variableLength : RoutingFields → ℕ → ℕ → ℕ
+variableLength unaddressed source destination = 0
+variableLength (addressed ttl qos) source destination = routingSize + (source + 1 + (destination + 1))
+
+-- the sizes of what may be written
+pub record Allowed (routing : RoutingFields) (source destination body room : ℕ) : Type 0 where
+  pub source-short : source < largestAddress
+  pub destination-short : destination < largestAddress
+  pub body-short : body ≤ largestBody
+  pub fits : headerSize + variableLength routing source destination + body + fieldSize ≤ room

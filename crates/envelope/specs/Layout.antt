@@ -59,3 +59,7 @@ fieldSize = 4
 
 abbrev pub leastSize : ℕ
 leastSize = headerSize + fieldSize
+
+-- the largest body that a data length of three bytes can state
+abbrev pub largestBody : ℕ
+largestBody = 16777215

@@ -7,7 +7,10 @@ pub mod Fields
 pub mod Heading
 pub mod Reading
 pub mod Told
-pub mod Helpers
 pub mod Qos
 pub mod Lateness
 pub mod Sequence
+pub mod Message
+pub mod Writing
+pub mod RoundTrips
+pub mod Helpers

@@ -79,6 +79,8 @@ impl Envelope {
     pub const ADDRESSES: usize = Envelope::HEADER + Envelope::ROUTING;
     // The largest address, with its closing zero.
     pub const ADDRESS: usize = 64;
+    // The largest body that a data length of three bytes can state.
+    pub const BODY: usize = 16_777_215;
 
     pub fn new(header: Header, addressing: Addressing, body: Part, integrity: Integrity) -> Envelope
         ensures { λ r. ⌜ Holds header addressing body integrity r ⌝ }

@@ -1,4 +1,4 @@
-// EMP envelopes: reading any bytes, and what an accepted envelope tells (QoS, lateness, sequence).
+// EMP envelopes: reading any bytes, writing a message, and what an accepted envelope tells (QoS, lateness, sequence).
 // Rests on the crate `sum`, by its promise alone.
 mod addresses;
 pub mod fields;
@@ -9,6 +9,7 @@ pub mod numbers;
 pub mod qos;
 pub mod reader;
 pub mod sequence;
+pub mod writer;
 
 pub use crate::fields::Addressing;
 pub use crate::fields::Envelope;

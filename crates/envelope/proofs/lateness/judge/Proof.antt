@@ -1,9 +1,7 @@
 -- `lateness::judge` takes the definition's cases in its order.
-use mathlib.Core.Bool.{true, false, not}
-use mathlib.Core.Path.{_≡_, ap, sym, _∙_}
+use mathlib.Core.Path.{sym, _∙_}
 use borrow.Author.Needs.{needs}
 use borrow.Author.Tests.{eq-eqb, ne-eqb}
-use Rattle.envelope.specs.Flags.{timeIsAbsolute}
 use Rattle.envelope.specs.Lateness.{latenessOf}
 use Rattle.envelope.proofs.lateness.judge.Statement.{statement}
 use Rattle.envelope.proofs.lateness.judge.Tie as tie

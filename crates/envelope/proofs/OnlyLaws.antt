@@ -1,0 +1,186 @@
+-- One answer alone keeps each promise: what a function is told as can be told back.
+-- `untold` undoes `told`, case by case.
+use mathlib.Core.List.{List}
+use mathlib.Core.Path.{_≡_, refl, sym, _∙_}
+use Prim.Native.Nat.{ℕ, zero, suc}
+use Rattle.sum.proofs.Laws.{only-by-telling}
+use Rattle.sum.specs.Promise.{Only₁}
+use Rattle.envelope.specs.Fields.{Span, HeaderFields, AddressingFields, absent, present, IntegrityFields, none, crc, application, Answer, accepted, refused}
+use Rattle.envelope.specs.Lateness.{LatenessAnswer, noClock, late, inTime, lateness, toldLateness, JudgesLateness}
+use Rattle.envelope.specs.Numbers.{TwoBytes, ThreeBytes, FourBytes}
+use Rattle.envelope.specs.Qos.{QosFields, splitting, QosAnswer, joining, toldQos, toldJoining, Splits, Joins}
+use Rattle.envelope.specs.Qos as qos
+use Rattle.envelope.specs.Reading.{reading}
+use Rattle.envelope.specs.Sequence.{SequenceAnswer, repeat, next, ahead, behind, sequenceOf, distance, toldSequence, Distance, JudgesSequence}
+use Rattle.envelope.specs.Told.{toldFault, toldAddressing, toldIntegrity, toldEnvelope, told, Reads, Holds}
+use Rattle.envelope.specs.declared.fields.Part.{Part}
+use Rattle.envelope.specs.declared.fields.Header.{Header}
+use Rattle.envelope.specs.declared.fields.Addressing.{Addressing}
+use Rattle.envelope.specs.declared.fields.Addressing.the-variants.{Absent, Present}
+use Rattle.envelope.specs.declared.fields.Integrity.{Integrity}
+use Rattle.envelope.specs.declared.fields.Integrity.the-variants.{None, Crc, Application}
+use Rattle.envelope.specs.declared.fields.Envelope.{Envelope}
+use Rattle.envelope.specs.declared.lateness.Lateness.{Lateness}
+use Rattle.envelope.specs.declared.lateness.Lateness.the-variants.{NoClock, Late, InTime}
+use Rattle.envelope.specs.declared.qos.Qos.{Qos}
+use Rattle.envelope.specs.declared.qos.Joining.{Joining}
+use Rattle.envelope.specs.declared.qos.Joining.the-variants.{Joined, DoesNotFit}
+use Rattle.envelope.specs.declared.reader.Fault.{Fault}
+use Rattle.envelope.specs.declared.reader.Fault.the-variants.{TooShort, WrongVersion, BadFlags, BadVariableSize, WrongLength, BadAddresses, BadIntegrity}
+use Rattle.envelope.specs.declared.reader.Reading.{Reading}
+use Rattle.envelope.specs.declared.reader.Reading.the-variants.{Accepted, Refused}
+use Rattle.envelope.specs.declared.sequence.Sequence.{Sequence}
+use Rattle.envelope.specs.declared.sequence.Sequence.the-variants.{Repeat, Next, Ahead, Behind}
+
+-- ---- reading
+
+abbrev untoldFault : ℕ → Fault
+untoldFault zero = TooShort
+untoldFault (suc zero) = TooShort
+untoldFault (suc (suc zero)) = WrongVersion
+untoldFault (suc (suc (suc zero))) = BadFlags
+untoldFault (suc (suc (suc (suc zero)))) = BadVariableSize
+untoldFault (suc (suc (suc (suc (suc zero))))) = WrongLength
+untoldFault (suc (suc (suc (suc (suc (suc zero)))))) = BadAddresses
+untoldFault (suc (suc (suc (suc (suc (suc (suc n))))))) = BadIntegrity
+
+untold-fault : (f : Fault) → untoldFault (toldFault f) ≡ f
+untold-fault TooShort = refl
+untold-fault WrongVersion = refl
+untold-fault BadFlags = refl
+untold-fault BadVariableSize = refl
+untold-fault WrongLength = refl
+untold-fault BadAddresses = refl
+untold-fault BadIntegrity = refl
+
+abbrev untoldPart : Span → Part
+untoldPart p = record { place = p .place; size = p .size }
+
+abbrev untoldHeader : HeaderFields → Header
+untoldHeader h =
+    record {
+      «message_type» = h .messageType;
+      version = h .version;
+      flags = h .flags;
+      number = h .number;
+      time = h .time;
+    }
+
+abbrev untoldAddressing : AddressingFields → Addressing
+untoldAddressing absent = Absent
+untoldAddressing (present ttl qos source destination) = Present ttl qos (untoldPart source) (untoldPart destination)
+
+untold-addressing : (a : Addressing) → untoldAddressing (toldAddressing a) ≡ a
+untold-addressing Absent = refl
+untold-addressing (Present ttl qos source destination) = refl
+
+abbrev untoldIntegrity : IntegrityFields → Integrity
+untoldIntegrity none = None
+untoldIntegrity (crc held) = Crc held
+untoldIntegrity (application held) = Application held
+
+untold-integrity : (i : Integrity) → untoldIntegrity (toldIntegrity i) ≡ i
+untold-integrity None = refl
+untold-integrity (Crc held) = refl
+untold-integrity (Application held) = refl
+
+abbrev untold : Answer → Reading
+untold (accepted f) =
+    Accepted
+    (record {
+      header = untoldHeader (f .header);
+      addressing = untoldAddressing (f .addressing);
+      body = untoldPart (f .body);
+      integrity = untoldIntegrity (f .integrity);
+    })
+untold (refused r) = Refused (record { fault = untoldFault (r .number) })
+
+untold-told : (r : Reading) → untold (told r) ≡ r
+untold-told (Accepted e) = λ i.
+    Accepted
+    (record {
+      header = e .header;
+      addressing = untold-addressing (e .addressing) i;
+      body = e .body;
+      integrity = untold-integrity (e .integrity) i;
+    })
+untold-told (Refused r) = λ i. Refused (record { fault = untold-fault (r .fault) i })
+
+pub only-reads : (bytes : List ℕ) → Only₁ (Reads bytes)
+only-reads bytes = only-by-telling told untold untold-told (reading bytes)
+
+-- ---- the envelope's constructor, and numbers by value
+
+pub only-holds : (header : Header) (addressing : Addressing) (body : Part) (integrity : Integrity)
+    → Only₁ (Holds header addressing body integrity)
+only-holds header addressing body integrity a b p q = p ∙ sym q
+
+pub only-two-bytes : (a b : ℕ) → Only₁ (TwoBytes a b)
+only-two-bytes a b x y p q = p ∙ sym q
+
+pub only-three-bytes : (a b c : ℕ) → Only₁ (ThreeBytes a b c)
+only-three-bytes a b c x y p q = p ∙ sym q
+
+pub only-four-bytes : (a b c d : ℕ) → Only₁ (FourBytes a b c d)
+only-four-bytes a b c d x y p q = p ∙ sym q
+
+-- ---- QoS
+
+abbrev untoldQos : QosFields → Qos
+untoldQos f =
+    record {
+      «service_request» = f .serviceRequest;
+      «special_handling» = f .specialHandling;
+      «network_preference» = f .networkPreference;
+      priority = f .priority;
+      class = f .class;
+    }
+
+pub only-splits : (q : ℕ) → Only₁ (Splits q)
+only-splits q = only-by-telling toldQos untoldQos (λ r. refl) (splitting q)
+
+abbrev untoldJoining : QosAnswer → Joining
+untoldJoining (qos.joined q) = Joined q
+untoldJoining (qos.refused n) = DoesNotFit
+
+untold-joining : (r : Joining) → untoldJoining (toldJoining r) ≡ r
+untold-joining (Joined q) = refl
+untold-joining DoesNotFit = refl
+
+pub only-joins : (q : Qos) → Only₁ (Joins q)
+only-joins q = only-by-telling toldJoining untoldJoining untold-joining (joining (toldQos q))
+
+-- ---- lateness
+
+abbrev untoldLateness : LatenessAnswer → Lateness
+untoldLateness noClock = NoClock
+untoldLateness late = Late
+untoldLateness inTime = InTime
+
+untold-lateness : (r : Lateness) → untoldLateness (toldLateness r) ≡ r
+untold-lateness NoClock = refl
+untold-lateness Late = refl
+untold-lateness InTime = refl
+
+pub only-judges-lateness : (e : Envelope) (clock : ℕ) → Only₁ (JudgesLateness e clock)
+only-judges-lateness e clock = only-by-telling toldLateness untoldLateness untold-lateness (lateness (toldEnvelope e) clock)
+
+-- ---- sequence
+
+pub only-distance : (old new : ℕ) → Only₁ (Distance old new)
+only-distance old new a b p q = p ∙ sym q
+
+abbrev untoldSequence : SequenceAnswer → Sequence
+untoldSequence repeat = Repeat
+untoldSequence next = Next
+untoldSequence (ahead n) = Ahead n
+untoldSequence (behind n) = Behind n
+
+untold-sequence : (r : Sequence) → untoldSequence (toldSequence r) ≡ r
+untold-sequence Repeat = refl
+untold-sequence Next = refl
+untold-sequence (Ahead n) = refl
+untold-sequence (Behind n) = refl
+
+pub only-judges-sequence : (old new : ℕ) → Only₁ (JudgesSequence old new)
+only-judges-sequence old new = only-by-telling toldSequence untoldSequence untold-sequence (sequenceOf (distance old new))
