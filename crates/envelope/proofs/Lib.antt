@@ -7,3 +7,7 @@ pub mod QosLaws
 pub mod OnlyLaws
 pub mod PastedLaws
 pub mod WriteLaws
+pub mod ReadingLaws
+pub mod WrittenLaws
+pub mod RebuiltLaws
+pub mod RoundTripLaws

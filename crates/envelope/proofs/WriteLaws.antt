@@ -86,6 +86,10 @@ ends-kept routing s d e =
     let p = neither (badEnd s) (badEnd d || strayEnds routing s d) e in
     (p .0, neither (badEnd d) (strayEnds routing s d) (p .1) .0)
 
+pub stray-kept : (routing : RoutingFields) (s d : List ℕ) → badEnds routing s d ≡ false → strayEnds routing s d ≡ false
+stray-kept routing s d e =
+    neither (badEnd d) (strayEnds routing s d) (neither (badEnd s) (badEnd d || strayEnds routing s d) e .1) .1
+
 pub ends-short : (routing : RoutingFields) (s d : List ℕ) → badEnds routing s d ≡ false
     → (length s < largestAddress) × (length d < largestAddress)
 ends-short routing s d e = let k = ends-kept routing s d e in (end-short s (k .0), end-short d (k .1))
