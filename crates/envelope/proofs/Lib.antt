@@ -11,3 +11,4 @@ pub mod ReadingLaws
 pub mod WrittenLaws
 pub mod RebuiltLaws
 pub mod RoundTripLaws
+pub mod DemandLaws

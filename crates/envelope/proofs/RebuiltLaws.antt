@@ -243,7 +243,7 @@ module _ (s : List ℕ) (bytes : Bytes s) (f : Fields) (g : Good s f) where
       ++ (take-add (variableSize s) (dataLength s) (drop headerSize s)
       ∙ ap (λ (x : List ℕ). take (variableSize s) (drop headerSize s) ++ take (dataLength s) x) (drop-drop (variableSize s) headerSize s)) i))
 
-  last-four : drop (fieldPlace s) s ≡ inFour (fourAt s (fieldPlace s))
+  pub last-four : drop (fieldPlace s) s ≡ inFour (fourAt s (fieldPlace s))
   last-four =
       let l = all in
       let m = fieldPlace s in

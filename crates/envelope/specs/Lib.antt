@@ -13,4 +13,5 @@ pub mod Sequence
 pub mod Message
 pub mod Writing
 pub mod RoundTrips
+pub mod Demand3
 pub mod Helpers
