@@ -5,13 +5,13 @@ use mathlib.Core.Path.{_≡_, refl, ap, ap₂, sym, _∙_}
 use Prim.Native.Nat.{ℕ, _+_, _-_, _≤_, _<_}
 use native.Mathlib.Nat.{add-zero}
 use native.Mathlib.Omega.{arith}
-use lib.ListN.{length, take, drop, getD, length-drop, take-append-drop}
-use lib.Seq.{ext-getD, getD-take, getD-drop, length-take-le, take-take, take-add, drop-drop}
+use lib.ListN.{length, take, drop, length-drop, take-append-drop}
+use lib.Seq.{ext-getD, getD-take, getD-drop, length-take-le, take-add}
 use Rattle.sum.specs.Crc.{crc32}
 use Rattle.sum.specs.Detection.{Bytes}
 use Rattle.sum.proofs.Bursts.{detects-four-bytes, detects-bits}
 use Rattle.sum.proofs.Laws.{bytes-take, bytes-drop}
-use Rattle.envelope.specs.Demand3.{DeclaresCrc, Window, before, field, SameOutside, Demand3, Demand3Bits}
+use Rattle.envelope.specs.Demand3.{DeclaresCrc, before, field, SameOutside, Demand3, Demand3Bits}
 use Rattle.envelope.specs.Layout.{fieldSize}
 use Rattle.envelope.specs.Message.{inFour}
 use Rattle.envelope.specs.Numbers.{byteAt, fourAt}

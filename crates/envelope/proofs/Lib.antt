@@ -12,3 +12,4 @@ pub mod WrittenLaws
 pub mod RebuiltLaws
 pub mod RoundTripLaws
 pub mod DemandLaws
+pub mod RewriteLaws

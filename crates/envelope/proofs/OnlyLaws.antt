@@ -1,18 +1,24 @@
 -- One answer alone keeps each promise: what a function is told as can be told back.
 -- `untold` undoes `told`, case by case.
 use mathlib.Core.List.{List}
-use mathlib.Core.Path.{_≡_, refl, sym, _∙_}
-use Prim.Native.Nat.{ℕ, zero, suc}
+use mathlib.Core.Path.{_≡_, refl, sym, ap, _∙_}
+use Prim.Native.Nat.{ℕ, zero, suc, _-_}
+use lib.ListN.{length}
 use Rattle.sum.proofs.Laws.{only-by-telling}
 use Rattle.sum.specs.Promise.{Only₁}
 use Rattle.envelope.specs.Fields.{Span, HeaderFields, AddressingFields, absent, present, IntegrityFields, none, crc, application, Answer, accepted, refused}
 use Rattle.envelope.specs.Lateness.{LatenessAnswer, noClock, late, inTime, lateness, toldLateness, JudgesLateness}
+use Rattle.envelope.specs.Message.{Given}
 use Rattle.envelope.specs.Numbers.{TwoBytes, ThreeBytes, FourBytes}
+use Rattle.envelope.specs.Promise.{Only₂}
 use Rattle.envelope.specs.Qos.{QosFields, splitting, QosAnswer, joining, toldQos, toldJoining, Splits, Joins}
 use Rattle.envelope.specs.Qos as qos
 use Rattle.envelope.specs.Reading.{reading}
+use Rattle.envelope.specs.Rewriting.{RewriteAnswer, toldRewriting, Rewrites}
+use Rattle.envelope.specs.Rewriting as rewriting
 use Rattle.envelope.specs.Sequence.{SequenceAnswer, repeat, next, ahead, behind, sequenceOf, distance, toldSequence, Distance, JudgesSequence}
-use Rattle.envelope.specs.Told.{toldFault, toldAddressing, toldIntegrity, toldEnvelope, told, Reads, Holds}
+use Rattle.envelope.specs.Told.{toldFault, toldAddressing, toldIntegrity, toldEnvelope, told, Slices, Reads, Holds}
+use Rattle.envelope.specs.Writing.{WriteAnswer, wrote, barred, answerOf, writing, toldWriteFault, toldWriting, Writes}
 use Rattle.envelope.specs.declared.fields.Part.{Part}
 use Rattle.envelope.specs.declared.fields.Header.{Header}
 use Rattle.envelope.specs.declared.fields.Addressing.{Addressing}
@@ -31,6 +37,12 @@ use Rattle.envelope.specs.declared.reader.Reading.{Reading}
 use Rattle.envelope.specs.declared.reader.Reading.the-variants.{Accepted, Refused}
 use Rattle.envelope.specs.declared.sequence.Sequence.{Sequence}
 use Rattle.envelope.specs.declared.sequence.Sequence.the-variants.{Repeat, Next, Ahead, Behind}
+use Rattle.envelope.specs.declared.rewriter.Rewriting.{Rewriting}
+use Rattle.envelope.specs.declared.rewriter.Rewriting.the-variants as again
+use Rattle.envelope.specs.declared.writer.WriteFault.{WriteFault}
+use Rattle.envelope.specs.declared.writer.WriteFault.the-variants.{BadFlags as NoFlags, BadAddresses as NoEnds, BodyTooLong, StrayIntegrity, NoRoom}
+use Rattle.envelope.specs.declared.writer.Writing.{Writing}
+use Rattle.envelope.specs.declared.writer.Writing.the-variants.{Written, Refused as Barred}
 
 -- ---- reading
 
@@ -184,3 +196,50 @@ untold-sequence (Behind n) = refl
 
 pub only-judges-sequence : (old new : ℕ) → Only₁ (JudgesSequence old new)
 only-judges-sequence old new = only-by-telling toldSequence untoldSequence untold-sequence (sequenceOf (distance old new))
+
+-- ---- a part's bytes
+
+pub only-slices : (p : Part) (bytes : List ℕ) → Only₁ (Slices p bytes)
+only-slices p bytes a b e f = e ∙ sym f
+
+-- ---- writing, and rewriting: the answer and the whole buffer
+
+abbrev untoldWriteFault : ℕ → WriteFault
+untoldWriteFault zero = NoFlags
+untoldWriteFault (suc zero) = NoEnds
+untoldWriteFault (suc (suc zero)) = BodyTooLong
+untoldWriteFault (suc (suc (suc zero))) = StrayIntegrity
+untoldWriteFault (suc (suc (suc (suc n)))) = NoRoom
+
+untold-write-fault : (f : WriteFault) → untoldWriteFault (toldWriteFault f - 11) ≡ f
+untold-write-fault NoFlags = refl
+untold-write-fault NoEnds = refl
+untold-write-fault BodyTooLong = refl
+untold-write-fault StrayIntegrity = refl
+untold-write-fault NoRoom = refl
+
+abbrev untoldWriting : WriteAnswer → Writing
+untoldWriting (wrote n) = Written n
+untoldWriting (barred n) = Barred (untoldWriteFault (n - 11))
+
+untold-writing : (r : Writing) → untoldWriting (toldWriting r) ≡ r
+untold-writing (Written n) = refl
+untold-writing (Barred f) = ap Barred (untold-write-fault f)
+
+pub only-writes : (g : Given) (entry : List ℕ) → Only₂ (Writes g entry)
+only-writes g entry a b x y p q =
+    (only-by-telling toldWriting untoldWriting untold-writing (answerOf (writing g (length entry))) a b (p .0) (q .0), p .1 ∙ sym (q .1))
+
+abbrev untoldRewriting : RewriteAnswer → Rewriting
+untoldRewriting (rewriting.rewrote n) = again.Written n
+untoldRewriting (rewriting.unread r) = again.Unread (record { fault = untoldFault (r .number) })
+untoldRewriting (rewriting.barred n) = again.NoRoom
+
+untold-rewriting : (r : Rewriting) → untoldRewriting (toldRewriting r) ≡ r
+untold-rewriting (again.Written n) = refl
+untold-rewriting (again.Unread r) = λ i. again.Unread (record { fault = untold-fault (r .fault) i })
+untold-rewriting again.NoRoom = refl
+
+pub only-rewrites : (s entry : List ℕ) → Only₂ (Rewrites s entry)
+only-rewrites s entry a b x y p q =
+    (only-by-telling toldRewriting untoldRewriting untold-rewriting (rewriting.rewriting s (length entry)) a b (p .0) (q .0), p .1 ∙ sym (q .1))

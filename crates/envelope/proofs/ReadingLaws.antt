@@ -1,25 +1,23 @@
 -- What acceptance says, for the layers above: they cite these laws and never open the definition of reading.
 -- `Good` has everything that an accepted message keeps; the laws below are its parts in 01's words.
-use mathlib.Core.Bool.{Bool, true, false, cond, not}
+use mathlib.Core.Bool.{Bool, true, false, cond}
 use mathlib.Core.List.{List}
-use mathlib.Core.Logic.{_⊎_, inl, inr}
 use mathlib.Core.Path.{_≡_, refl, ap, sym, _∙_}
-use Prim.Native.Nat.{ℕ, _≤_, _<_, _+_, _-_}
+use Prim.Native.Nat.{ℕ, _≤_, _<_, _-_}
 use native.Mathlib.Omega.{arith}
-use borrow.Author.Tests.{eqb-true, eqb-false, eq-eqb, ne-eqb, ltb-false, le-ltb, not-false}
-use lib.Dec.{eqb, ltb}
+use borrow.Author.Tests.{eqb-true, eqb-false, eq-eqb, ltb-false, le-ltb, not-false}
+use lib.Dec.{eqb}
 use lib.ListN.{length, take}
 use Rattle.sum.specs.Crc.{crc32}
 use Rattle.sum.specs.Detection.{Bytes}
 use Rattle.envelope.specs.Addresses.{badAddresses}
-use Rattle.envelope.specs.Fields.{HeaderFields, IntegrityFields, none, crc, application, Fields, Answer, accepted, refusal}
+use Rattle.envelope.specs.Fields.{IntegrityFields, none, crc, application, Fields, Answer, accepted, refusal}
 use Rattle.envelope.specs.Flags.{kindOf, kindNone, kindCrc, kindApplication, kindUnassigned}
 use Rattle.envelope.specs.Heading.{flagsOf, variableSize, dataLength, fieldPlace, announced, Judged, passed, broken, heading}
 use Rattle.envelope.specs.IntegrityField.{badIntegrity}
-use Rattle.envelope.specs.Layout.{typePlace, numberPlace, leastSize, fieldSize, largestVariable, largestBody, headerSize}
-use Rattle.envelope.specs.Numbers.{byteAt, twoAt, threeAt, fourAt}
+use Rattle.envelope.specs.Layout.{typePlace, numberPlace, leastSize, fieldSize, largestBody}
+use Rattle.envelope.specs.Numbers.{twoAt, threeAt, fourAt}
 use Rattle.envelope.specs.Reading.{tooShort, wrongLength, headerOf, integrityOf, fieldsOf, readingWhole, after, reading}
-use Rattle.envelope.proofs.BoolLaws.{true-is-not-false}
 use Rattle.envelope.proofs.HeadingLaws.{Passed, announced-is, heading-passed, passed-heading, kind-assigned, size-most}
 
 -- ---- accepted: no rule is broken, and the fields are the definition's

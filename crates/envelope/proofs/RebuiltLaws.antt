@@ -7,28 +7,27 @@ use Prim.Native.Nat.{ℕ, zero, suc, _≤_, _<_, _+_, _-_, _*_, _/_, _%_}
 use native.Mathlib.Nat.{add-zero}
 use native.Mathlib.Numerals.{add-one, add-two, add-three}
 use native.Mathlib.Omega.{arith}
-use borrow.Author.Tests.{eqb-true, eqb-false, eq-eqb, ne-eqb, le-ltb, lt-leb, not-false}
-use lib.Dec.{eqb, leb, ltb}
+use borrow.Author.Tests.{eqb-true, eqb-false, le-ltb, lt-leb, not-false}
+use lib.Dec.{eqb}
 use lib.ListN.{length, take, drop, getD, length-drop, length-take, take-append-drop, drop-of-length-le}
-use lib.Seq.{drop-cons, drop-drop, take-add, take-take, split-at, length-take-le, take-nil}
+use lib.Seq.{drop-cons, drop-drop, take-add, take-take, split-at, length-take-le}
 use Rattle.sum.specs.Crc.{crc32}
 use Rattle.sum.specs.Detection.{Bytes}
-use Rattle.envelope.specs.Addresses.{firstZero, sourceSize, destinationSize, regionOf, twoAddresses, badAddresses}
-use Rattle.envelope.specs.Fields.{AddressingFields, absent, present, IntegrityFields, none, crc, application, Fields, accepted, partOf}
-use Rattle.envelope.specs.Flags.{kindOf, kindNone, kindCrc, kindApplication, kindUnassigned}
-use Rattle.envelope.specs.Heading.{flagsOf, variableSize, dataLength, fieldPlace, announced, wrongVersion}
+use Rattle.envelope.specs.Addresses.{firstZero, sourceSize, destinationSize, regionOf, badAddresses}
+use Rattle.envelope.specs.Fields.{absent, present, none, crc, application, Fields, partOf}
+use Rattle.envelope.specs.Flags.{kindOf, kindNone, kindCrc}
+use Rattle.envelope.specs.Heading.{flagsOf, variableSize, dataLength, fieldPlace}
 use Rattle.envelope.specs.IntegrityField.{badIntegrity}
-use Rattle.envelope.specs.Layout.{headerVersion, versionPlace, headerSize, routingSize, addressesPlace, fieldSize, largestAddress, largestBody}
-use Rattle.envelope.specs.Message.{RoutingFields, unaddressed, addressed, Given, inTwo, inThree, inFour, variableBytes, variableOf, beforeField, fieldNumber, message}
+use Rattle.envelope.specs.Layout.{headerVersion, headerSize, routingSize, addressesPlace, fieldSize, largestAddress, largestBody}
+use Rattle.envelope.specs.Message.{unaddressed, Given, inTwo, inThree, inFour, variableBytes, variableOf, beforeField, fieldNumber, message}
 use Rattle.envelope.specs.Numbers.{byteAt, twoAt, threeAt, fourAt}
-use Rattle.envelope.specs.Reading.{sourceOf, destinationOf, headerOf, addressingOf, integrityOf, fieldsOf, reading}
+use Rattle.envelope.specs.Reading.{sourceOf, destinationOf, headerOf, addressingOf, integrityOf, fieldsOf}
 use Rattle.envelope.specs.RoundTrips.{routingOf, sourceBytes, destinationBytes, applicationNumber, givenBy}
-use Rattle.envelope.specs.Writing.{hasZero, badEnd, badEnds, bodyTooLong, strayIntegrity, written, writing}
+use Rattle.envelope.specs.Writing.{hasZero, badEnd, badEnds, strayIntegrity}
 use Rattle.envelope.proofs.AddressLaws.{two-scanned, Scanned}
-use Rattle.envelope.proofs.HeadingLaws.{announced-is, kind-assigned, size-least}
-use Rattle.envelope.proofs.ReadingLaws.{Good, good, data-length-most}
-use Rattle.envelope.proofs.WriteLaws.{Kept, kept-written}
-use Rattle.envelope.proofs.ZeroLaws.{zero-inside}
+use Rattle.envelope.proofs.HeadingLaws.{announced-is, size-least}
+use Rattle.envelope.proofs.ReadingLaws.{Good, data-length-most}
+use Rattle.envelope.proofs.WriteLaws.{FourKept}
 
 -- ---- stretches of a list
 
@@ -271,14 +270,12 @@ module _ (s : List ℕ) (bytes : Bytes s) (f : Fields) (g : Good s f) where
           let w = scanned e in
           rw (source-is e, destination-is e, end-kept region (w .source), second-kept region w)
 
-  pub again-kept : (room : ℕ) → length s ≤ room → Kept again room
+  pub again-kept : FourKept again
   unfolding fieldsOf headerOf
-  again-kept room h =
+  again-kept =
       record {
         flags = g .heading .flags;
         ends = ends-kept;
         body = le-ltb largestBody (length (again .body)) (omega (arith, body-length, data-length-most s bytes));
         integrity = number-kept (kindOf (flagsOf s)) (fourAt s (fieldPlace s));
-        fits = rw rebuilt (le-ltb room (length s) h);
       }
-

@@ -1,20 +1,22 @@
 -- Both round trips, as specs/RoundTrips states them, and that accepted bytes are fixed by what is handed out of them.
 -- The work is in proofs/WrittenLaws and proofs/RebuiltLaws.
-use mathlib.Core.List.{List, _++_}
-use mathlib.Core.Path.{_≡_, refl, ap, sym, _∙_}
-use Prim.Native.Nat.{ℕ, _≤_}
+use mathlib.Core.Bool.{cond}
+use mathlib.Core.List.{List}
+use mathlib.Core.Path.{_≡_, ap, sym, _∙_}
+use Prim.Native.Nat.{ℕ}
+use borrow.Author.Tests.{le-ltb}
+use lib.Dec.{ltb}
 use lib.ListN.{length, take, drop}
 use lib.Seq.{take-append-seam}
 use Rattle.sum.specs.Detection.{Bytes}
 use Rattle.envelope.specs.Fields.{Fields, accepted}
-use Rattle.envelope.specs.Message.{Given, message}
-use Rattle.envelope.specs.Reading.{fieldsOf, reading}
-use Rattle.envelope.specs.RoundTrips.{givenBy, ReadsAs, WrittenThenRead, WrittenBufferThenRead, ReadThenWritten, SameFieldsSameBytes}
-use Rattle.envelope.specs.Writing.{Outcome, written, writing, bufferAfter, wrote, answerOf, toldWriting, Writes}
-use Rattle.envelope.specs.declared.writer.Writing.{Writing}
+use Rattle.envelope.specs.Message.{message}
+use Rattle.envelope.specs.Reading.{reading}
+use Rattle.envelope.specs.RoundTrips.{givenBy, WrittenThenRead, WrittenBufferThenRead, ReadThenWritten, SameFieldsSameBytes}
+use Rattle.envelope.specs.Writing.{Outcome, written, refused, writing, bufferAfter, wrote, answerOf}
 use Rattle.envelope.proofs.ReadingLaws.{good}
 use Rattle.envelope.proofs.RebuiltLaws.{rebuilt, again-kept}
-use Rattle.envelope.proofs.WriteLaws.{Kept, wrote-kept, kept-written}
+use Rattle.envelope.proofs.WriteLaws.{wrote-kept, kept-written, four-writing}
 use Rattle.envelope.proofs.WrittenLaws.{reads-as}
 
 same-message : (l m : List ℕ) → written l ≡ written m → l ≡ m
@@ -42,10 +44,17 @@ written-buffer-then-read g entry exit r n w e =
 pub rebuilds : (s : List ℕ) (f : Fields) → Bytes s → reading s ≡ accepted f → message (givenBy s f) ≡ s
 rebuilds s f bytes e = let g = good s f e in rw (g .fields) (rebuilt s bytes f g)
 
-pub read-then-written : ReadThenWritten
-read-then-written s f room bytes e h =
+-- writing them again is refused for want of room alone
+pub written-again : (s : List ℕ) (f : Fields) (room : ℕ) → Bytes s → reading s ≡ accepted f
+    → writing (givenBy s f) room ≡ cond (ltb room (length s)) (refused 15) (written s)
+written-again s f room bytes e =
     let g = good s f e in
-    rw (g .fields) (kept-written _ room (again-kept s bytes f g room h) ∙ ap written (rebuilt s bytes f g))
+    rw (g .fields)
+    (four-writing _ room (again-kept s bytes f g)
+    ∙ ap (λ (m : List ℕ). cond (ltb room (length m)) (refused 15) (written m)) (rebuilt s bytes f g))
+
+pub read-then-written : ReadThenWritten
+read-then-written s f room bytes e h = written-again s f room bytes e ∙ rw (le-ltb room (length s) h)
 
 pub same-fields-same-bytes : SameFieldsSameBytes
 same-fields-same-bytes s t f bs bt es et same = sym (rebuilds s f bs es) ∙ ap message same ∙ rebuilds t f bt et

@@ -2,7 +2,7 @@
 -- `pasted` stands for the steps, `bufferAfter` for the promise.
 use mathlib.Core.Bool.{Bool, true, false, cond, _||_}
 use mathlib.Core.List.{List, [], _∷_, _++_, append-assoc}
-use mathlib.Core.Path.{_≡_, refl}
+use mathlib.Core.Path.{_≡_, refl, sym, _∙_}
 use Prim.Native.Nat.{ℕ, _≤_, _<_, _+_}
 use native.Mathlib.Nat.{zero-add}
 use native.Mathlib.Omega.{arith}
@@ -14,7 +14,7 @@ use Rattle.envelope.specs.Flags.{kindOf, badFlags}
 use Rattle.envelope.specs.Helpers.{pasted, variableLength, Allowed}
 use Rattle.envelope.specs.Layout.{headerSize, fieldSize, largestAddress, largestBody}
 use Rattle.envelope.specs.Message.{RoutingFields, unaddressed, addressed, Given, inFour, headerBytes, variableBytes, variableOf, beforeField, fieldNumber, message}
-use Rattle.envelope.specs.Writing.{hasZero, badEnd, strayEnds, badEnds, bodyTooLong, strayIntegrity, Outcome, written, refused, writing, bufferAfter, wrote, barred, answerOf}
+use Rattle.envelope.specs.Writing.{hasZero, badEnd, strayEnds, badEnds, bodyTooLong, strayIntegrity, Outcome, written, refused, writing, bufferAfter, wrote, barred, answerOf, RefusalWritesNothing}
 use Rattle.envelope.proofs.BoolLaws.{neither}
 use Rattle.envelope.proofs.PastedLaws.{pasted-more}
 
@@ -94,17 +94,24 @@ pub ends-short : (routing : RoutingFields) (s d : List ℕ) → badEnds routing 
     → (length s < largestAddress) × (length d < largestAddress)
 ends-short routing s d e = let k = ends-kept routing s d e in (end-short s (k .0), end-short d (k .1))
 
--- no rule of writing is broken
-pub record Kept (g : Given) (room : ℕ) : Type 0 where
+-- the rules of writing that do not look at the room, and all five
+pub record FourKept (g : Given) : Type 0 where
   pub flags : badFlags (g .header .flags) ≡ false
   pub ends : badEnds (g .routing) (g .source) (g .destination) ≡ false
   pub body : bodyTooLong (g .body) ≡ false
   pub integrity : strayIntegrity (g .application) (kindOf (g .header .flags)) ≡ false
+
+pub record Kept (g : Given) (room : ℕ) : Type 0 where
+  pub four : FourKept g
   pub fits : ltb room (length (message g)) ≡ false
 
-pub kept-written : (g : Given) (room : ℕ) → Kept g room → writing g room ≡ written (message g)
+pub four-writing : (g : Given) (room : ℕ) → FourKept g
+    → writing g room ≡ cond (ltb room (length (message g))) (refused 15) (written (message g))
 unfolding writing
-kept-written g room k = rw (k .flags, k .ends, k .body, k .integrity, k .fits)
+four-writing g room k = rw (k .flags, k .ends, k .body, k .integrity)
+
+pub kept-written : (g : Given) (room : ℕ) → Kept g room → writing g room ≡ written (message g)
+kept-written g room k = four-writing g room (k .four) ∙ rw (k .fits)
 
 -- a length was answered
 passes : (b : Bool) (k n : ℕ) (w : Outcome) → wrote n ≡ answerOf (cond b (refused k) w) → (b ≡ false) × (wrote n ≡ answerOf w)
@@ -119,16 +126,16 @@ wrote-kept g room n e =
     let p3 = passes (bodyTooLong (g .body)) 13 n _ (p2 .1) in
     let p4 = passes (strayIntegrity (g .application) (kindOf (g .header .flags))) 14 n _ (p3 .1) in
     let p5 = passes (ltb room (length (message g))) 15 n _ (p4 .1) in
-    record { flags = p1 .0; ends = p2 .0; body = p3 .0; integrity = p4 .0; fits = p5 .0 }
+    record { four = record { flags = p1 .0; ends = p2 .0; body = p3 .0; integrity = p4 .0 }; fits = p5 .0 }
 
 pub kept-allowed : (g : Given) (room : ℕ) → Kept g room
     → Allowed (g .routing) (length (g .source)) (length (g .destination)) (length (g .body)) room
 kept-allowed g room k =
-    let e = ends-short (g .routing) (g .source) (g .destination) (k .ends) in
+    let e = ends-short (g .routing) (g .source) (g .destination) (k .four .ends) in
     record {
       source-short = e .0;
       destination-short = e .1;
-      body-short = ltb-false largestBody (length (g .body)) (k .body);
+      body-short = ltb-false largestBody (length (g .body)) (k .four .body);
       fits = omega (arith, ltb-false room (length (message g)) (k .fits), message-length g);
     }
 
@@ -137,6 +144,10 @@ kept-allowed g room k =
 pub refused-after : (w : Outcome) (k : ℕ) (entry : List ℕ) → barred k ≡ answerOf w → entry ≡ bufferAfter w entry
 refused-after (written m) k entry e = cc
 refused-after (refused n) k entry e = refl
+
+pub refusal-writes-nothing : RefusalWritesNothing
+refusal-writes-nothing g entry exit r n w e =
+    w .1 ∙ sym (refused-after (writing g (length entry)) n entry (sym e ∙ w .0))
 
 pub written-after : (entry m : List ℕ) → pasted entry 0 m ≡ bufferAfter (written m) entry
 unfolding pasted

@@ -5,25 +5,25 @@ use mathlib.Core.List.{List, [], _∷_, _++_, append-assoc}
 use mathlib.Core.Path.{_≡_, refl, ap, sym, _∙_}
 use Prim.Native.Nat.{ℕ, suc, _+_, _-_, _/_, _%_, _*_, _≤_, _<_}
 use native.Mathlib.Omega.{arith}
-use borrow.Author.Tests.{eq-eqb, ne-eqb, le-leb, lt-leb, le-ltb, ltb-false, eqb-true, eqb-false, leb-false, not-false}
-use lib.Dec.{eqb, leb, ltb}
-use lib.ListN.{length, take, drop, getD, length-append}
+use borrow.Author.Tests.{eq-eqb, ne-eqb, le-leb, lt-leb, le-ltb, ltb-false, eqb-true, leb-false, not-false}
+use lib.Dec.{eqb, leb}
+use lib.ListN.{length, take, drop, length-append}
 use lib.Seq.{getD-append-seam, getD-append-add, take-append-seam, take-at, drop-append-add, drop-append-seam, drop-drop}
 use Rattle.sum.specs.Crc.{crc32}
 use Rattle.envelope.specs.Addresses.{firstZero, sourceSize, destinationSize, regionOf, twoAddresses, badAddresses}
-use Rattle.envelope.specs.Fields.{HeaderFields, AddressingFields, absent, present, IntegrityFields, none, crc, application, Fields, accepted, partOf}
-use Rattle.envelope.specs.Flags.{kindOf, kindNone, kindCrc, kindUnassigned, badFlags}
-use Rattle.envelope.specs.Heading.{flagsOf, variableSize, dataLength, fieldPlace, announced, badVariableSize, wrongVersion}
+use Rattle.envelope.specs.Fields.{HeaderFields, AddressingFields, absent, present, none, crc, application, Fields, accepted}
+use Rattle.envelope.specs.Flags.{kindOf, kindNone, kindCrc}
+use Rattle.envelope.specs.Heading.{fieldPlace, badVariableSize}
 use Rattle.envelope.specs.IntegrityField.{badIntegrity}
-use Rattle.envelope.specs.Layout.{headerSize, routingSize, addressesPlace, leastSize, fieldSize, largestAddress, largestVariable}
-use Rattle.envelope.specs.Message.{RoutingFields, unaddressed, addressed, Given, inTwo, inThree, inFour, headerBytes, variableBytes, variableOf, beforeField, fieldNumber, message}
-use Rattle.envelope.specs.Numbers.{byteAt, twoAt, threeAt, fourAt}
+use Rattle.envelope.specs.Layout.{headerSize, routingSize, addressesPlace, fieldSize, largestAddress, largestVariable}
+use Rattle.envelope.specs.Message.{RoutingFields, unaddressed, addressed, Given, inFour, headerBytes, variableBytes, variableOf, beforeField, fieldNumber, message}
+use Rattle.envelope.specs.Numbers.{twoAt, threeAt, fourAt}
 use Rattle.envelope.specs.Reading.{headerOf, addressingOf, integrityOf, fieldsOf, reading}
 use Rattle.envelope.specs.RoundTrips.{routingOf, sourceBytes, destinationBytes, applicationNumber, givenBy, ReadsAs}
-use Rattle.envelope.specs.Writing.{hasZero, badEnd, strayEnds, badEnds, strayIntegrity}
+use Rattle.envelope.specs.Writing.{hasZero, badEnd, strayEnds, strayIntegrity}
 use Rattle.envelope.proofs.AddressLaws.{scanned-two}
-use Rattle.envelope.proofs.BoolLaws.{neither, true-is-not-false}
-use Rattle.envelope.proofs.HeadingLaws.{announced-is, kind-assigned}
+use Rattle.envelope.proofs.BoolLaws.{neither}
+use Rattle.envelope.proofs.HeadingLaws.{announced-is}
 use Rattle.envelope.proofs.ReadingLaws.{accepts}
 use Rattle.envelope.proofs.WriteLaws.{ends-length, ends-kept, stray-kept, Kept}
 use Rattle.envelope.proofs.ZeroLaws.{zero-inside}
@@ -161,7 +161,7 @@ field-fine kind number u =
 pub read-back : (g : Given) (room : ℕ) → Kept g room → reading (message g) ≡ accepted (fieldsBack g)
 unfolding message beforeField fieldsOf headerOf twoAt threeAt fourAt
 read-back g room k =
-    let e = ends-kept (g .routing) (g .source) (g .destination) (k .ends) in
+    let e = ends-kept (g .routing) (g .source) (g .destination) (k .four .ends) in
     let hs = fine (g .source) (e .0) in
     let hd = fine (g .destination) (e .1) in
     let u = beforeField g in
@@ -173,19 +173,19 @@ read-back g room k =
     let d = three-back (length (g .body)) in
     let place : fieldPlace m ≡ length u = omega arith in
     let a = addresses-back g v (length (g .body)) (inFour n) hs hd (g .routing) refl in
-    accepts m (omega arith) (record { version = refl; flags = k .flags; size = variable-fine (g .routing) (g .source) (g .destination) hs hd })
+    accepts m (omega arith) (record { version = refl; flags = k .four .flags; size = variable-fine (g .routing) (g .source) (g .destination) hs hd })
     (omega (arith, announced-is m)) (a .0) (rw place (field-fine (kindOf (g .header .flags)) (g .application) u))
     ∙ (λ i.
     accepted
     (record {
       header =
-        record {
-          messageType = two-back (g .header .messageType) i;
-          version = g .header .version;
-          flags = g .header .flags;
-          number = four-back (g .header .number) i;
-          time = four-back (g .header .time) i;
-        };
+          record {
+            messageType = two-back (g .header .messageType) i;
+            version = g .header .version;
+            flags = g .header .flags;
+            number = four-back (g .header .number) i;
+            time = four-back (g .header .time) i;
+          };
       addressing = a .1 i;
       body = record { place = headerSize + v; size = d i };
       integrity = integrityOf (kindOf (g .header .flags)) ((ap (fourAt m) place ∙ field-back u n) i);
@@ -261,7 +261,7 @@ given-back g room k =
     let tail = inFour (numberBack g) in
     let v = length (variableOf g) in
     let d = length (g .body) in
-    let stray = stray-kept (g .routing) (g .source) (g .destination) (k .ends) in
+    let stray = stray-kept (g .routing) (g .source) (g .destination) (k .four .ends) in
     let source = source-part (g .header) v d (g .source) (g .destination) (g .body) tail (g .routing) stray in
     let destination = destination-part (g .header) v d (g .source) (g .destination) (g .body) tail (g .routing) stray in
     let body = body-part (headerBytes (g .header) v d) (variableOf g) (g .body) tail in
@@ -272,7 +272,7 @@ given-back g room k =
       source = source i;
       destination = destination i;
       body = body i;
-      application = application-back (kindOf (g .header .flags)) (g .application) (beforeField g) (k .integrity) i;
+      application = application-back (kindOf (g .header .flags)) (g .application) (beforeField g) (k .four .integrity) i;
     }
 
 pub reads-as : (g : Given) (room : ℕ) → Kept g room → ReadsAs (message g) g

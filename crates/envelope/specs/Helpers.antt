@@ -10,15 +10,19 @@ use Rattle.envelope.specs.Fields.{AddressingFields, IntegrityFields}
 use Rattle.envelope.specs.Heading.{Judged, passed, broken}
 use Rattle.envelope.specs.Layout.{headerSize, routingSize, largestAddress, largestBody, fieldSize}
 use Rattle.envelope.specs.Message.{RoutingFields, unaddressed, addressed}
-use Rattle.envelope.specs.Told.{toldFault, toldAddressing, toldIntegrity}
+use Rattle.envelope.specs.RoundTrips.{givenBy}
+use Rattle.envelope.specs.Told.{toldFault, toldAddressing, toldIntegrity, toldEnvelope}
+use Rattle.envelope.specs.Writing.{Writes}
 use Rattle.envelope.specs.declared.addresses.Ends.{Ends}
 use Rattle.envelope.specs.declared.addresses.Ends.the-variants as ends
 use Rattle.envelope.specs.declared.addresses.FoundAddressing.{FoundAddressing}
 use Rattle.envelope.specs.declared.addresses.FoundAddressing.the-variants as addressing
+use Rattle.envelope.specs.declared.fields.Envelope.{Envelope}
 use Rattle.envelope.specs.declared.integrity_field.FoundIntegrity.{FoundIntegrity}
 use Rattle.envelope.specs.declared.integrity_field.FoundIntegrity.the-variants as integrity
 use Rattle.envelope.specs.declared.reader.Heading.{Heading}
 use Rattle.envelope.specs.declared.reader.Heading.the-variants as heading
+use Rattle.envelope.specs.declared.writer.Writing.{Writing}
 
 abbrev pub unless : {A : Type 0} → Bool → A → Option A
 unless true x = none
@@ -64,3 +68,7 @@ pub record Allowed (routing : RoutingFields) (source destination body room : ℕ
   pub destination-short : destination < largestAddress
   pub body-short : body ≤ largestBody
   pub fits : headerSize + variableLength routing source destination + body + fieldSize ≤ room
+
+-- an envelope's fields and parts, written: what `write` promises of them
+abbrev pub Again : List ℕ → Envelope → List ℕ → Writing → List ℕ → Type 0
+Again s e entry r exit = Writes (givenBy s (toldEnvelope e)) entry r exit

@@ -1,3 +1,4 @@
+pub mod Promise
 pub mod Numbers
 pub mod Layout
 pub mod Flags
@@ -12,6 +13,7 @@ pub mod Lateness
 pub mod Sequence
 pub mod Message
 pub mod Writing
+pub mod Rewriting
 pub mod RoundTrips
 pub mod Demand3
 pub mod Helpers

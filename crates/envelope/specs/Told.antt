@@ -3,7 +3,7 @@
 use Prim.Native.Nat.{ℕ}
 use mathlib.Core.List.{List}
 use mathlib.Core.Path.{_≡_}
-use Rattle.envelope.specs.Fields.{Span, HeaderFields, AddressingFields, absent, present, IntegrityFields, none, crc, application, Fields, Answer, accepted, refusal}
+use Rattle.envelope.specs.Fields.{Span, HeaderFields, AddressingFields, absent, present, IntegrityFields, none, crc, application, Fields, Answer, accepted, refusal, partOf}
 use Rattle.envelope.specs.Reading.{reading}
 use Rattle.envelope.specs.declared.fields.Part.{Part}
 use Rattle.envelope.specs.declared.fields.Header.{Header}
@@ -60,6 +60,10 @@ toldEnvelope e =
 abbrev pub told : Reading → Answer
 told (Accepted e) = accepted (toldEnvelope e)
 told (Refused r) = refusal (toldFault (r .fault))
+
+-- what `Part::slice` promises: the bytes of the part, as far as they reach
+abbrev pub Slices : Part → List ℕ → List ℕ → Type 0
+Slices p bytes r = r ≡ partOf bytes (toldPart p)
 
 -- what `read` promises
 abbrev pub Reads : List ℕ → Reading → Type 0

@@ -104,3 +104,8 @@ given header routing source destination body application =
 abbrev pub Writes : Given → List ℕ → Writing → List ℕ → Type 0
 Writes g entry r exit =
     (toldWriting r ≡ answerOf (writing g (length entry))) × (exit ≡ bufferAfter (writing g (length entry)) entry)
+
+-- a refusal leaves the buffer as it was; proved in proofs/WriteLaws
+abbrev pub RefusalWritesNothing : Type 0
+RefusalWritesNothing =
+    (g : Given) (entry exit : List ℕ) (r : Writing) (n : ℕ) → Writes g entry r exit → toldWriting r ≡ barred n → exit ≡ entry

@@ -1,10 +1,28 @@
 // What an accepted message is handed out as, and the numbers of its layout.
-ghost use Rattle.envelope.specs.Told.{Holds};
+ghost use Rattle.envelope.specs.Told.{Slices, Holds};
 
 // A part of the bytes lent: its first place and its size.
 pub struct Part {
     pub place: usize,
     pub size: usize,
+}
+
+impl Part {
+    // The bytes of the part, out of those that it was found in: as far as they reach.
+    pub fn slice<'a>(self, bytes: &'a [u8]) -> &'a [u8]
+        ensures { λ r. ⌜ Slices self (now (bytes .entry)) (now r) ⌝ }
+    {
+        let place = self.place;
+        let size = self.size;
+        if bytes.len() <= place {
+            return &bytes[..0];
+        }
+        if bytes.len() - place <= size {
+            return &bytes[place..];
+        }
+        let end = place + size;
+        &bytes[place..end]
+    }
 }
 
 // The fields of the fixed header that a sender chooses. Header version, V and D follow from the rest.

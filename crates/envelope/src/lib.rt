@@ -8,6 +8,7 @@ pub mod lateness;
 pub mod numbers;
 pub mod qos;
 pub mod reader;
+pub mod rewriter;
 pub mod sequence;
 pub mod writer;
 

@@ -1,29 +1,204 @@
 -- For each public promise two answers that a careless program would give, each refuted by computing.
 -- They show that no promise is met by whatever comes.
-use mathlib.Core.Bool.{not}
-use mathlib.Core.Path.{_≡_, sym, _∙_, subst}
-use mathlib.Core.List.{[]}
-use Prim.Native.Nat.{ℕ}
-use lib.Dec.{T, eqb, eqb-refl, T-not}
-use lib.ListN.{take}
+use mathlib.Core.List.{List, [], _∷_, _++_}
+use mathlib.Core.Path.{_≡_, refl, sym, ap, _∙_}
+use Prim.Native.Nat.{ℕ, zero, suc}
+use native.Mathlib.Omega.{arith}
+use lib.IntN.{ℤ, pos, negsuc}
+use lib.ListN.{length, take, set, getD}
 use Rattle.sum.specs.Crc.{crc32}
 use Rattle.sum.specs.Promise.{Sums}
 use Rattle.sum.specs.Vectors.{digits}
 use Rattle.sum.proofs.Computed.{vectors, crc32-computes}
+use Rattle.envelope.specs.Fields.{absent}
+use Rattle.envelope.specs.Flags.{badFlags}
+use Rattle.envelope.specs.Lateness.{latenessOf, JudgesLateness}
+use Rattle.envelope.specs.Message.{Given, beforeField, fieldNumber, message}
+use Rattle.envelope.specs.Numbers.{TwoBytes, ThreeBytes, FourBytes}
+use Rattle.envelope.specs.Qos.{QosFields, splitting, joining, Splits, Joins}
+use Rattle.envelope.specs.Rewriting.{rewrote, unread, Rewrites}
+use Rattle.envelope.specs.RoundTrips.{givenBy}
+use Rattle.envelope.specs.Sequence.{stepsOn, Distance, JudgesSequence}
+use Rattle.envelope.specs.Told.{Slices, Reads, Holds}
+use Rattle.envelope.specs.Writing.{Outcome, written, writing, bufferAfter, hasZero, badEnd, strayIntegrity, Writes}
+use Rattle.envelope.specs.declared.fields.Addressing.the-variants.{Absent, Present}
+use Rattle.envelope.specs.declared.fields.Envelope.{Envelope}
+use Rattle.envelope.specs.declared.fields.Header.{Header}
+use Rattle.envelope.specs.declared.fields.Integrity.the-variants.{None}
+use Rattle.envelope.specs.declared.lateness.Lateness.the-variants.{Late, InTime}
+use Rattle.envelope.specs.declared.qos.Joining.the-variants.{Joined, DoesNotFit}
+use Rattle.envelope.specs.declared.reader.Fault.the-variants.{TooShort, WrongVersion}
+use Rattle.envelope.specs.declared.reader.Reading.the-variants.{Accepted, Refused}
+use Rattle.envelope.specs.declared.rewriter.Rewriting.the-variants as again
+use Rattle.envelope.specs.declared.sequence.Sequence.the-variants.{Ahead, Behind}
+use Rattle.envelope.specs.declared.writer.Writing.{Writing}
+use Rattle.envelope.specs.declared.writer.Writing.the-variants.{Written}
+use Rattle.sheet.specs.Cases.{M, likeM}
+use Rattle.sheet.proofs.Apart.{apart, accepted-not-refused, refusal-number}
+use Rattle.sheet.proofs.Cases.{starred}
 
--- two numbers that a test tells apart are not equal
-apart : (a b : ℕ) → T (not (eqb a b)) → a ≡ b → ⊥
-apart a b t e = T-not (eqb a b) t (subst (λ (n : ℕ). T (eqb a n)) e (eqb-refl a))
+-- ---- crc: one fixed answer; the state with nothing inverted; the last byte left out
 
--- `crc`: one fixed answer
 pub crc-is-not-always-0 : Sums digits 0 → ⊥
 crc-is-not-always-0 kept = apart 0 0xCBF43926 tt (kept ∙ vectors .check-value)
 
--- `crc`: the state with nothing inverted
 pub crc-is-inverted : Sums [] 0xFFFFFFFF → ⊥
 crc-is-inverted kept = apart 0xFFFFFFFF 0 tt (kept ∙ vectors .no-bytes)
 
--- `crc`: the last byte left out
 pub crc-takes-the-last-byte : Sums digits (crc32 (take 8 digits)) → ⊥
 crc-takes-the-last-byte kept =
     apart 0x9AE0DAAF 0xCBF43926 tt (sym (crc32-computes (take 8 digits) tt) ∙ kept ∙ vectors .check-value)
+
+-- ---- read: all turned away; the field skipped where the kind is none; another rule's number
+
+pub read-does-not-turn-all-away : Reads M (Refused (record { fault = TooShort })) → ⊥
+read-does-not-turn-all-away kept = accepted-not-refused _ 1 (sym (kept ∙ starred .a .0))
+
+pub read-does-not-skip-the-field : (e : Envelope) → Reads (set M 20 1) (Accepted e) → ⊥
+read-does-not-skip-the-field e kept = accepted-not-refused _ 7 (kept ∙ starred .f)
+
+pub read-gives-the-first-rule : Reads (take 20 M) (Refused (record { fault = WrongVersion })) → ⊥
+read-gives-the-first-rule kept = apart 2 1 tt (refusal-number 2 1 (kept ∙ starred .b))
+
+-- ---- write: nothing touched; a byte past the message touched
+
+abbrev givenM : Given
+givenM = givenBy M (likeM absent 17 0)
+
+abbrev zeros : ℕ → List ℕ
+zeros zero = []
+zeros (suc n) = 0 ∷ zeros n
+
+writes-M : writing givenM 21 ≡ written M
+unfolding writing message beforeField fieldNumber badFlags badEnd hasZero strayIntegrity
+writes-M = refl
+
+pub write-does-not-touch-nothing : (r : Writing) → Writes givenM (zeros 21) r (zeros 21) → ⊥
+write-does-not-touch-nothing r kept =
+    apart 0 4 tt (ap (λ (s : List ℕ). getD s 0 0) (kept .1 ∙ ap (λ (o : Outcome). bufferAfter o (zeros 21)) writes-M))
+
+pub write-leaves-the-rest : (r : Writing) → Writes givenM (zeros 22) r (M ++ 9 ∷ []) → ⊥
+unfolding writing message beforeField fieldNumber badFlags badEnd hasZero strayIntegrity
+write-leaves-the-rest r kept = apart 9 0 tt (ap (λ (s : List ℕ). getD s 21 0) (kept .1))
+
+-- ---- rewrite: nothing touched; a message of which one byte is missing
+
+pub rewrite-does-not-touch-nothing : Rewrites M (zeros 21) (again.Written 21) (zeros 21) → ⊥
+rewrite-does-not-touch-nothing kept =
+    apart 0 4 tt (ap (λ (s : List ℕ). getD s 0 0) (rw (starred .a .0) at (kept .1)))
+
+pub rewrite-refuses-what-read-refuses : (exit : List ℕ) → Rewrites (take 20 M) (zeros 21) (again.Written 20) exit → ⊥
+rewrite-refuses-what-read-refuses exit kept = told (rw (starred .b) at (kept .0))
+  where
+    told : rewrote 20 ≡ unread (record { number = 1 }) → ⊥
+    told e = let z : _≡_ {A = ℕ} 0 1 = cc in omega arith
+
+-- ---- Envelope::new: another body; another integrity
+
+abbrev headerM : Header
+headerM = record { «message_type» = 6000; version = 1; flags = 0; number = 1; time = 0 }
+
+pub new-keeps-the-body :
+    Holds headerM Absent (record { place = 17; size = 0 }) None (record { header = headerM; addressing = Absent; body = record { place = 0; size = 0 }; integrity = None }) → ⊥
+new-keeps-the-body kept = apart 0 17 tt (ap (λ (e : Envelope). e .body .place) kept)
+
+pub new-keeps-the-header :
+    Holds headerM Absent (record { place = 17; size = 0 }) None
+    (record { header = record { «message_type» = 0; version = 1; flags = 0; number = 1; time = 0 }; addressing = Absent; body = record { place = 17; size = 0 }; integrity = None })
+    → ⊥
+new-keeps-the-header kept = apart 0 6000 tt (ap (λ (e : Envelope). e .header .«message_type») kept)
+
+-- ---- Part::slice: one place off; nothing
+
+pub slice-begins-at-its-place : Slices (record { place = 1; size = 1 }) (7 ∷ 8 ∷ 9 ∷ []) (7 ∷ []) → ⊥
+slice-begins-at-its-place kept = apart 7 8 tt (ap (λ (s : List ℕ). getD s 0 0) kept)
+
+pub slice-has-its-size : Slices (record { place = 1; size = 2 }) (7 ∷ 8 ∷ 9 ∷ []) (8 ∷ []) → ⊥
+slice-has-its-size kept = apart 1 2 tt (ap length kept)
+
+-- ---- numbers: the lowest byte first; a byte forgotten
+
+pub two-bytes-are-big-endian : TwoBytes 1 2 0x0201 → ⊥
+two-bytes-are-big-endian kept = apart 0x0201 0x0102 tt kept
+
+pub two-bytes-are-two : TwoBytes 1 2 2 → ⊥
+two-bytes-are-two kept = apart 2 0x0102 tt kept
+
+pub three-bytes-are-big-endian : ThreeBytes 1 2 3 0x030201 → ⊥
+three-bytes-are-big-endian kept = apart 0x030201 0x010203 tt kept
+
+pub three-bytes-are-three : ThreeBytes 1 2 3 0x0203 → ⊥
+three-bytes-are-three kept = apart 0x0203 0x010203 tt kept
+
+pub four-bytes-are-big-endian : FourBytes 1 2 3 4 0x04030201 → ⊥
+four-bytes-are-big-endian kept = apart 0x04030201 0x01020304 tt kept
+
+pub four-bytes-are-four : FourBytes 1 2 3 4 0x020304 → ⊥
+four-bytes-are-four kept = apart 0x020304 0x01020304 tt kept
+
+-- ---- qos::split: priority taken for class; all zero. qos::join: a number that does not fit run round; all refused
+
+pub split-does-not-take-priority-for-class :
+    Splits 8 (record { «service_request» = 0; «special_handling» = 0; «network_preference» = 0; priority = 0; class = 1 }) → ⊥
+unfolding splitting
+split-does-not-take-priority-for-class kept = apart 0 1 tt (ap (λ (f : QosFields). f .priority) kept)
+
+pub split-is-not-always-0 :
+    Splits 0x8000 (record { «service_request» = 0; «special_handling» = 0; «network_preference» = 0; priority = 0; class = 0 }) → ⊥
+unfolding splitting
+split-is-not-always-0 kept = apart 0 4 tt (ap (λ (f : QosFields). f .serviceRequest) kept)
+
+pub join-does-not-run-round :
+    Joins (record { «service_request» = 8; «special_handling» = 0; «network_preference» = 0; priority = 0; class = 0 }) (Joined 0) → ⊥
+unfolding joining
+join-does-not-run-round kept = let z : _≡_ {A = ℕ} 0 1 = cc in omega arith
+
+pub join-does-not-refuse-all :
+    Joins (record { «service_request» = 0; «special_handling» = 0; «network_preference» = 0; priority = 1; class = 0 }) DoesNotFit → ⊥
+unfolding joining
+join-does-not-refuse-all kept = let z : _≡_ {A = ℕ} 0 1 = cc in omega arith
+
+-- ---- lateness: late at the very second; in time for ever; a clock where there is none
+
+abbrev timed : ℕ → Envelope
+timed flags =
+    record {
+      header = record { «message_type» = 6000; version = 1; flags = flags; number = 1; time = 100 };
+      addressing = Present 20 0 (record { place = 21; size = 0 }) (record { place = 22; size = 0 });
+      body = record { place = 23; size = 0 };
+      integrity = None;
+    }
+
+pub not-late-at-the-very-second : JudgesLateness (timed 1) 120 Late → ⊥
+unfolding latenessOf
+not-late-at-the-very-second kept = let z : _≡_ {A = ℕ} 0 1 = cc in omega arith
+
+pub not-in-time-for-ever : JudgesLateness (timed 1) 121 InTime → ⊥
+unfolding latenessOf
+not-in-time-for-ever kept = let z : _≡_ {A = ℕ} 0 1 = cc in omega arith
+
+pub no-clock-for-a-relative-time : JudgesLateness (timed 0) 121 Late → ⊥
+unfolding latenessOf
+no-clock-for-a-relative-time kept = let z : _≡_ {A = ℕ} 0 1 = cc in omega arith
+
+-- ---- sequence: a distance that does not run round; one that is not signed; the next told as ahead by 1; a number ahead told as behind
+
+natural : ℤ → ℕ
+natural (pos n) = n
+natural (negsuc n) = 0
+
+pub distance-runs-round : Distance 4294967295 0 (negsuc 4294967294) → ⊥
+unfolding stepsOn natural
+distance-runs-round kept = apart 0 1 tt (ap natural kept)
+
+pub distance-is-signed : Distance 0 2147483648 (pos 2147483648) → ⊥
+unfolding stepsOn natural
+distance-is-signed kept = apart 2147483648 0 tt (ap natural kept)
+
+pub the-next-is-not-ahead : JudgesSequence 7 8 (Ahead 1) → ⊥
+unfolding stepsOn
+the-next-is-not-ahead kept = let z : _≡_ {A = ℕ} 0 1 = cc in omega arith
+
+pub ahead-is-not-behind : JudgesSequence 7 9 (Behind 4294967294) → ⊥
+unfolding stepsOn
+ahead-is-not-behind kept = let z : _≡_ {A = ℕ} 0 1 = cc in omega arith

@@ -5,10 +5,10 @@ use native.Mathlib.Omega.{arith}
 use borrow.Author.Needs.{needs}
 use borrow.Author.Tests.{lt-ltb, le-ltb}
 use lib.ListN.{length}
-use Rattle.envelope.proofs.WriteLaws.{message-length, ends-short}
+use Rattle.envelope.proofs.WriteLaws.{FourKept, message-length, ends-short}
 use Rattle.envelope.specs.Flags.{kindOf, badFlags}
 use Rattle.envelope.specs.Message.{Given, message}
-use Rattle.envelope.specs.Writing.{badEnds, bodyTooLong, strayIntegrity, writing, wrote, given}
+use Rattle.envelope.specs.Writing.{badEnds, strayIntegrity, writing, wrote, given}
 use Rattle.envelope.proofs.writer.judge.Statement.{statement}
 use Rattle.envelope.proofs.writer.judge.Tie as tie
 
@@ -23,13 +23,6 @@ flags-kept c = sym (c .before .refused .ensures) ∙ c .if1 .left
 
 ends-kept : (c : tie.Else2) → let g = asked (c .before .before) in badEnds (g .routing) (g .source) (g .destination) ≡ false
 ends-kept c = sym (c .before .ends-refused .ensures) ∙ c .if2 .left
-
--- the first four rules
-pub record FourKept (g : Given) : Type 0 where
-  pub flags : badFlags (g .header .flags) ≡ false
-  pub ends : badEnds (g .routing) (g .source) (g .destination) ≡ false
-  pub body : bodyTooLong (g .body) ≡ false
-  pub integrity : strayIntegrity (g .application) (kindOf (g .header .flags)) ≡ false
 
 integrity-is : (c : tie.After-integrity-refused) →
     let g = asked (c .before .before .before .before .before) in

@@ -1,0 +1,77 @@
+-- Rewriting: what is lent to `write` is what reading handed out, and so the outcome is the bytes themselves or 15.
+-- Rests on the second round trip.
+use mathlib.Core.Bool.{Bool, true, false, cond}
+use mathlib.Core.List.{List, []}
+use mathlib.Core.Path.{_≡_, refl, ap, sym, _∙_, subst}
+use Prim.Native.Nat.{ℕ}
+use lib.Dec.{ltb}
+use lib.ListN.{length}
+use Rattle.sum.specs.Detection.{Bytes}
+use Rattle.envelope.specs.Fields.{Fields, accepted, partOf}
+use Rattle.envelope.specs.Message.{Given}
+use Rattle.envelope.specs.Reading.{reading}
+use Rattle.envelope.specs.Rewriting.{RewriteAnswer, rewrote, barred, rewriting, rewritten}
+use Rattle.envelope.specs.RoundTrips.{applicationNumber, givenBy}
+use Rattle.envelope.specs.Told.{toldPart, toldIntegrity, toldEnvelope}
+use Rattle.envelope.specs.Writing.{Outcome, written, refused, writing, bufferAfter, wrote, answerOf, given, Writes}
+use Rattle.envelope.specs.Writing as write
+use Rattle.envelope.specs.declared.fields.Addressing.the-variants.{Absent, Present}
+use Rattle.envelope.specs.declared.fields.Envelope.{Envelope}
+use Rattle.envelope.specs.declared.fields.Part.{Part}
+use Rattle.envelope.specs.declared.writer.Routing.the-variants as routing
+use Rattle.envelope.specs.declared.writer.Writing.{Writing}
+use Rattle.envelope.proofs.RoundTripLaws.{written-again}
+
+-- ---- what is lent is what was handed out
+
+pub again-absent : (s : List ℕ) (e : Envelope) (body : List ℕ) (n : ℕ) → e .addressing ≡ Absent
+    → body ≡ partOf s (toldPart (e .body)) → n ≡ applicationNumber (toldIntegrity (e .integrity))
+    → given (e .header) routing.Absent [] [] body n ≡ givenBy s (toldEnvelope e)
+again-absent s e body n ea eb en = rw (ea, eb, en)
+
+pub again-present : (s : List ℕ) (e : Envelope) (ttl qos : ℕ) (p q : Part) (source destination body : List ℕ) (n : ℕ)
+    → e .addressing ≡ Present ttl qos p q → source ≡ partOf s (toldPart p) → destination ≡ partOf s (toldPart q)
+    → body ≡ partOf s (toldPart (e .body)) → n ≡ applicationNumber (toldIntegrity (e .integrity))
+    → given (e .header) (routing.Present ttl qos) source destination body n ≡ givenBy s (toldEnvelope e)
+again-present s e ttl qos p q source destination body n ea es ed eb en = rw (ea, es, ed, eb, en)
+
+-- the same given: the same promise
+pub writes-same : (g h : Given) (entry exit : List ℕ) (r : Writing) → g ≡ h → Writes g entry r exit → Writes h entry r exit
+writes-same g h entry exit r e w = subst (λ (x : Given). Writes x entry r exit) e w
+
+-- ---- the answer and the buffer
+
+wrote-cases : (b : Bool) (s entry : List ℕ) (n : ℕ) → wrote n ≡ answerOf (cond b (refused 15) (written s))
+    → (rewrote n ≡ cond b (barred 15) (rewrote (length s)))
+    × (bufferAfter (cond b (refused 15) (written s)) entry ≡ rewritten (cond b (barred 15) (rewrote (length s))) s entry)
+wrote-cases true s entry n e = (cc, cc)
+wrote-cases false s entry n e = (cc, refl)
+
+barred-cases : (b : Bool) (s entry : List ℕ) (k : ℕ) → write.barred k ≡ answerOf (cond b (refused 15) (written s))
+    → (barred 15 ≡ cond b (barred 15) (rewrote (length s)))
+    × (bufferAfter (cond b (refused 15) (written s)) entry ≡ rewritten (cond b (barred 15) (rewrote (length s))) s entry)
+barred-cases true s entry k e = (refl, refl)
+barred-cases false s entry k e = (cc, cc)
+
+module _ (s : List ℕ) (f : Fields) (entry exit : List ℕ) (bytes : Bytes s) (accepts : reading s ≡ accepted f)
+    (kept : exit ≡ bufferAfter (writing (givenBy s f) (length entry)) entry) where
+  abbrev short : Bool
+  short = ltb (length entry) (length s)
+
+  outcome : writing (givenBy s f) (length entry) ≡ cond short (refused 15) (written s)
+  outcome = written-again s f (length entry) bytes accepts
+
+  rewriting-is : rewriting s (length entry) ≡ cond short (barred 15) (rewrote (length s))
+  rewriting-is = rw accepts
+
+  pub rewrote-it : (n : ℕ) → wrote n ≡ answerOf (writing (givenBy s f) (length entry))
+      → (rewrote n ≡ rewriting s (length entry)) × (exit ≡ rewritten (rewriting s (length entry)) s entry)
+  rewrote-it n e =
+      let p = wrote-cases short s entry n (e ∙ ap answerOf outcome) in
+      (p .0 ∙ sym rewriting-is, kept ∙ ap (λ (o : Outcome). bufferAfter o entry) outcome ∙ p .1 ∙ ap (λ (a : RewriteAnswer). rewritten a s entry) (sym rewriting-is))
+
+  pub no-room : (k : ℕ) → write.barred k ≡ answerOf (writing (givenBy s f) (length entry))
+      → (barred 15 ≡ rewriting s (length entry)) × (exit ≡ rewritten (rewriting s (length entry)) s entry)
+  no-room k e =
+      let p = barred-cases short s entry k (e ∙ ap answerOf outcome) in
+      (p .0 ∙ sym rewriting-is, kept ∙ ap (λ (o : Outcome). bufferAfter o entry) outcome ∙ p .1 ∙ ap (λ (a : RewriteAnswer). rewritten a s entry) (sym rewriting-is))

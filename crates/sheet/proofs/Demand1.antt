@@ -1,0 +1,70 @@
+-- Demand 1: every public function has one answer to any input, and a refusal leaves what was lent as it was.
+-- That each takes any input, and strays nowhere, is what the proofs of the functions say: none has a `requires`.
+use mathlib.Core.List.{List}
+use Prim.Native.Nat.{ℕ}
+use Rattle.sum.specs.Promise.{Only₁, Sums}
+use Rattle.sum.proofs.Laws.{only-sums}
+use Rattle.envelope.specs.Lateness.{JudgesLateness}
+use Rattle.envelope.specs.Message.{Given}
+use Rattle.envelope.specs.Numbers.{TwoBytes, ThreeBytes, FourBytes}
+use Rattle.envelope.specs.Promise.{Only₂}
+use Rattle.envelope.specs.Qos.{Splits, Joins}
+use Rattle.envelope.specs.Rewriting.{Rewrites}
+use Rattle.envelope.specs.Sequence.{Distance, JudgesSequence}
+use Rattle.envelope.specs.Told.{Slices, Reads, Holds}
+use Rattle.envelope.specs.Writing.{Writes, RefusalWritesNothing}
+use Rattle.envelope.specs.declared.fields.Addressing.{Addressing}
+use Rattle.envelope.specs.declared.fields.Envelope.{Envelope}
+use Rattle.envelope.specs.declared.fields.Header.{Header}
+use Rattle.envelope.specs.declared.fields.Integrity.{Integrity}
+use Rattle.envelope.specs.declared.fields.Part.{Part}
+use Rattle.envelope.specs.declared.qos.Qos.{Qos}
+use Rattle.envelope.proofs.OnlyLaws as only
+use Rattle.envelope.proofs.WriteLaws.{refusal-writes-nothing}
+
+pub crc-has-one-answer : (bytes : List ℕ) → Only₁ (Sums bytes)
+crc-has-one-answer = only-sums
+
+pub read-has-one-answer : (bytes : List ℕ) → Only₁ (Reads bytes)
+read-has-one-answer = only.only-reads
+
+pub write-has-one-outcome : (g : Given) (entry : List ℕ) → Only₂ (Writes g entry)
+write-has-one-outcome = only.only-writes
+
+pub rewrite-has-one-outcome : (bytes entry : List ℕ) → Only₂ (Rewrites bytes entry)
+rewrite-has-one-outcome = only.only-rewrites
+
+pub new-has-one-answer : (header : Header) (addressing : Addressing) (body : Part) (integrity : Integrity)
+    → Only₁ (Holds header addressing body integrity)
+new-has-one-answer = only.only-holds
+
+pub slice-has-one-answer : (p : Part) (bytes : List ℕ) → Only₁ (Slices p bytes)
+slice-has-one-answer = only.only-slices
+
+pub two-bytes-has-one-answer : (a b : ℕ) → Only₁ (TwoBytes a b)
+two-bytes-has-one-answer = only.only-two-bytes
+
+pub three-bytes-has-one-answer : (a b c : ℕ) → Only₁ (ThreeBytes a b c)
+three-bytes-has-one-answer = only.only-three-bytes
+
+pub four-bytes-has-one-answer : (a b c d : ℕ) → Only₁ (FourBytes a b c d)
+four-bytes-has-one-answer = only.only-four-bytes
+
+pub split-has-one-answer : (q : ℕ) → Only₁ (Splits q)
+split-has-one-answer = only.only-splits
+
+pub join-has-one-answer : (q : Qos) → Only₁ (Joins q)
+join-has-one-answer = only.only-joins
+
+pub lateness-has-one-answer : (e : Envelope) (clock : ℕ) → Only₁ (JudgesLateness e clock)
+lateness-has-one-answer = only.only-judges-lateness
+
+pub distance-has-one-answer : (old new : ℕ) → Only₁ (Distance old new)
+distance-has-one-answer = only.only-distance
+
+pub sequence-has-one-answer : (old new : ℕ) → Only₁ (JudgesSequence old new)
+sequence-has-one-answer = only.only-judges-sequence
+
+-- a refusal of `write` leaves the buffer as it was
+pub a-refusal-writes-nothing : RefusalWritesNothing
+a-refusal-writes-nothing = refusal-writes-nothing
