@@ -17,8 +17,8 @@ use Rattle.envelope.specs.Reading.{reading}
 use Rattle.envelope.specs.Rewriting.{RewriteAnswer, toldRewriting, Rewrites}
 use Rattle.envelope.specs.Rewriting as rewriting
 use Rattle.envelope.specs.Sequence.{SequenceAnswer, repeat, next, ahead, behind, sequenceOf, distance, toldSequence, Distance, JudgesSequence}
-use Rattle.envelope.specs.Told.{toldFault, toldAddressing, toldIntegrity, toldEnvelope, told, Slices, Reads, Holds}
-use Rattle.envelope.specs.Writing.{WriteAnswer, wrote, barred, answerOf, writing, toldWriteFault, toldWriting, Writes}
+use Rattle.envelope.specs.Told.{toldFault, NumbersFault, toldAddressing, toldIntegrity, toldEnvelope, told, Slices, Reads, Holds}
+use Rattle.envelope.specs.Writing.{WriteAnswer, wrote, barred, answerOf, writing, toldWriteFault, NumbersWriteFault, toldWriting, Writes}
 use Rattle.envelope.specs.declared.fields.Part.{Part}
 use Rattle.envelope.specs.declared.fields.Header.{Header}
 use Rattle.envelope.specs.declared.fields.Addressing.{Addressing}
@@ -64,6 +64,9 @@ untold-fault BadVariableSize = refl
 untold-fault WrongLength = refl
 untold-fault BadAddresses = refl
 untold-fault BadIntegrity = refl
+
+pub only-numbers-fault : (f : Fault) → Only₁ (NumbersFault f)
+only-numbers-fault f a b p q = p ∙ sym q
 
 abbrev untoldPart : Span → Part
 untoldPart p = record { place = p .place; size = p .size }
@@ -217,6 +220,9 @@ untold-write-fault NoEnds = refl
 untold-write-fault BodyTooLong = refl
 untold-write-fault StrayIntegrity = refl
 untold-write-fault NoRoom = refl
+
+pub only-numbers-write-fault : (f : WriteFault) → Only₁ (NumbersWriteFault f)
+only-numbers-write-fault f a b p q = p ∙ sym q
 
 abbrev untoldWriting : WriteAnswer → Writing
 untoldWriting (wrote n) = Written n

@@ -26,6 +26,10 @@ toldFault WrongLength = 5
 toldFault BadAddresses = 6
 toldFault BadIntegrity = 7
 
+-- what `Fault::number` promises
+abbrev pub NumbersFault : Fault → ℕ → Type 0
+NumbersFault f r = r ≡ toldFault f
+
 abbrev pub toldPart : Part → Span
 toldPart p = record { place = p .place; size = p .size }
 

@@ -80,6 +80,10 @@ toldWriteFault BodyTooLong = 13
 toldWriteFault StrayIntegrity = 14
 toldWriteFault NoRoom = 15
 
+-- what `WriteFault::number` promises
+abbrev pub NumbersWriteFault : WriteFault → ℕ → Type 0
+NumbersWriteFault f r = r ≡ toldWriteFault f
+
 abbrev pub toldWriting : Writing → WriteAnswer
 toldWriting (Written n) = wrote n
 toldWriting (Refused f) = barred (toldWriteFault f)

@@ -4,10 +4,11 @@ ghost use Prim.Native.Nat.{_+_, _≤_, _<_};
 ghost use lib.ListN.{length};
 ghost use Rattle.envelope.specs.Flags.{kindUnassigned};
 ghost use Rattle.envelope.specs.IntegrityField.{badIntegrity};
-ghost use Rattle.envelope.specs.Layout.{fieldSize};
+ghost use Rattle.envelope.specs.Layout.{headerSize, fieldSize};
 ghost use Rattle.envelope.specs.Numbers.{fourAt};
 ghost use Rattle.envelope.specs.Reading.{integrityOf};
 ghost use Rattle.envelope.specs.Helpers.{unless, toldFoundIntegrity};
+use crate::fields::Envelope;
 use crate::fields::Integrity;
 use crate::flags::KIND_CRC;
 use crate::flags::KIND_NONE;
@@ -19,7 +20,7 @@ pub(crate) enum FoundIntegrity {
 }
 
 pub(crate) fn integrity_of(bytes: &[u8], kind: u8, place: usize) -> FoundIntegrity
-    requires { ⌜ (place + fieldSize ≤ length (now bytes)) × (kind < kindUnassigned) ⌝ }
+    requires { ⌜ (headerSize ≤ place) × (place + fieldSize ≤ length (now bytes)) × (kind < kindUnassigned) ⌝ }
     ensures { λ r. ⌜ toldFoundIntegrity r
         ≡ unless (badIntegrity (now (bytes .entry)) kind place) (integrityOf kind (fourAt (now (bytes .entry)) place)) ⌝ }
 {
@@ -31,7 +32,7 @@ pub(crate) fn integrity_of(bytes: &[u8], kind: u8, place: usize) -> FoundIntegri
         return FoundIntegrity::Broken;
     }
     if kind == KIND_CRC {
-        if held == sum::crc(&bytes[..place]) {
+        if held == sum::crc(&bytes[Envelope::VERSION_PLACE..place]) {
             return FoundIntegrity::Good(Integrity::Crc(held));
         }
         return FoundIntegrity::Broken;

@@ -5,7 +5,7 @@ ghost use lib.ListN.{length};
 ghost use Rattle.envelope.specs.Heading.{badVariableSize, heading, passed};
 ghost use Rattle.envelope.specs.Layout.{headerSize, leastSize};
 ghost use Rattle.envelope.specs.Reading.{headerOf, readingWhole};
-ghost use Rattle.envelope.specs.Told.{toldHeader, told, Reads};
+ghost use Rattle.envelope.specs.Told.{toldHeader, told, NumbersFault, Reads};
 ghost use Rattle.envelope.specs.Helpers.{toldHeading};
 use crate::addresses::FoundAddressing;
 use crate::addresses::addressing_of;
@@ -135,4 +135,21 @@ fn variable_size_refused(v: u8) -> bool
         return true;
     }
     (Envelope::VARIABLE as u8) < v
+}
+
+impl Fault {
+    // The number of the table of refusals.
+    pub fn number(self) -> u8
+        ensures { λ r. ⌜ NumbersFault self r ⌝ }
+    {
+        match self {
+            Fault::TooShort => 1,
+            Fault::WrongVersion => 2,
+            Fault::BadFlags => 3,
+            Fault::BadVariableSize => 4,
+            Fault::WrongLength => 5,
+            Fault::BadAddresses => 6,
+            Fault::BadIntegrity => 7,
+        }
+    }
 }

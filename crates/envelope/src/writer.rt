@@ -8,7 +8,7 @@ ghost use Rattle.envelope.specs.Helpers.{Allowed, pasted, variableLength
 ghost use Rattle.envelope.specs.Layout.{headerSize, largestVariable, largestAddress, largestBody};
 ghost use Rattle.envelope.specs.Message.{inFour, headerBytes, variableBytes, beforeField, fieldNumber, message};
 ghost use Rattle.envelope.specs.Told.{toldHeader};
-ghost use Rattle.envelope.specs.Writing.{badEnd, badEnds, strayIntegrity, writing, answerOf, toldRouting, toldWriting, given, Writes};
+ghost use Rattle.envelope.specs.Writing.{badEnd, badEnds, strayIntegrity, writing, answerOf, toldRouting, toldWriting, NumbersWriteFault, given, Writes};
 use crate::addresses::first_zero;
 use crate::fields::Envelope;
 use crate::fields::Header;
@@ -292,4 +292,19 @@ fn field_number(kind: u8, application: u32, before: &[u8]) -> u32
         return sum::crc(before);
     }
     application
+}
+
+impl WriteFault {
+    // The number of the table of refusals.
+    pub fn number(self) -> u8
+        ensures { λ r. ⌜ NumbersWriteFault self r ⌝ }
+    {
+        match self {
+            WriteFault::BadFlags => 11,
+            WriteFault::BadAddresses => 12,
+            WriteFault::BodyTooLong => 13,
+            WriteFault::StrayIntegrity => 14,
+            WriteFault::NoRoom => 15,
+        }
+    }
 }

@@ -52,7 +52,7 @@ returns-4 : tie.Need-returns-4
 returns-4 c =
     let t = c .before .before .before .before .before .before .before .before .args .region .now in
     let d = destination-is t _ _ (c .before .before .before .before .before .before .first-zero .ensures) (c .before .before .first-zero2 .ensures) in
-    rw (not-two t (λ h. c .if4 .taken (omega (arith, h .whole))))
+    rw (not-two t (λ h. omega (arith, h .whole)))
 
 returns-5 : tie.Need-returns-5
 returns-5 c =

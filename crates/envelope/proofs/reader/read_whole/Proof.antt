@@ -119,7 +119,7 @@ kind-requires : tie.Need-kind-requires
 kind-requires c κs = search needs
 
 integrity-of-requires : tie.Need-integrity-of-requires
-integrity-of-requires c κs = (omega arith, rw (c .kind .ensures) (kind-assigned _ (heading-passed _ (c .before .before .before .before .before .before .before .before .before .before .before .pre .1) .flags)))
+integrity-of-requires c κs = (omega arith, omega arith, rw (c .kind .ensures) (kind-assigned _ (heading-passed _ (c .before .before .before .before .before .before .before .before .before .before .before .pre .1) .flags)))
 
 enum-told-2 : tie.Need-enum-told-2
 enum-told-2 c = search needs
