@@ -11,14 +11,16 @@ use Rattle.envelope.specs.Promise.{Only₂}
 use Rattle.envelope.specs.Qos.{Splits, Joins}
 use Rattle.envelope.specs.Rewriting.{Rewrites}
 use Rattle.envelope.specs.Sequence.{Distance, JudgesSequence}
-use Rattle.envelope.specs.Told.{Slices, Reads, Holds}
-use Rattle.envelope.specs.Writing.{Writes, RefusalWritesNothing}
+use Rattle.envelope.specs.Told.{NumbersFault, Slices, Reads, Holds}
+use Rattle.envelope.specs.Writing.{NumbersWriteFault, Writes, RefusalWritesNothing}
 use Rattle.envelope.specs.declared.fields.Addressing.{Addressing}
 use Rattle.envelope.specs.declared.fields.Envelope.{Envelope}
 use Rattle.envelope.specs.declared.fields.Header.{Header}
 use Rattle.envelope.specs.declared.fields.Integrity.{Integrity}
 use Rattle.envelope.specs.declared.fields.Part.{Part}
 use Rattle.envelope.specs.declared.qos.Qos.{Qos}
+use Rattle.envelope.specs.declared.reader.Fault.{Fault}
+use Rattle.envelope.specs.declared.writer.WriteFault.{WriteFault}
 use Rattle.envelope.proofs.OnlyLaws as only
 use Rattle.envelope.proofs.WriteLaws.{refusal-writes-nothing}
 
@@ -40,6 +42,12 @@ new-has-one-answer = only.only-holds
 
 pub slice-has-one-answer : (p : Part) (bytes : List ℕ) → Only₁ (Slices p bytes)
 slice-has-one-answer = only.only-slices
+
+pub fault-number-has-one-answer : (f : Fault) → Only₁ (NumbersFault f)
+fault-number-has-one-answer = only.only-numbers-fault
+
+pub write-fault-number-has-one-answer : (f : WriteFault) → Only₁ (NumbersWriteFault f)
+write-fault-number-has-one-answer = only.only-numbers-write-fault
 
 pub two-bytes-has-one-answer : (a b : ℕ) → Only₁ (TwoBytes a b)
 two-bytes-has-one-answer = only.only-two-bytes

@@ -19,8 +19,8 @@ use Rattle.envelope.specs.Qos.{QosFields, splitting, joining, Splits, Joins}
 use Rattle.envelope.specs.Rewriting.{rewrote, unread, Rewrites}
 use Rattle.envelope.specs.RoundTrips.{givenBy}
 use Rattle.envelope.specs.Sequence.{stepsOn, Distance, JudgesSequence}
-use Rattle.envelope.specs.Told.{Slices, Reads, Holds}
-use Rattle.envelope.specs.Writing.{Outcome, written, writing, bufferAfter, hasZero, badEnd, strayIntegrity, Writes}
+use Rattle.envelope.specs.Told.{NumbersFault, Slices, Reads, Holds}
+use Rattle.envelope.specs.Writing.{Outcome, written, writing, bufferAfter, hasZero, badEnd, strayIntegrity, NumbersWriteFault, Writes}
 use Rattle.envelope.specs.declared.fields.Addressing.the-variants.{Absent, Present}
 use Rattle.envelope.specs.declared.fields.Envelope.{Envelope}
 use Rattle.envelope.specs.declared.fields.Header.{Header}
@@ -31,6 +31,7 @@ use Rattle.envelope.specs.declared.reader.Fault.the-variants.{TooShort, WrongVe
 use Rattle.envelope.specs.declared.reader.Reading.the-variants.{Accepted, Refused}
 use Rattle.envelope.specs.declared.rewriter.Rewriting.the-variants as again
 use Rattle.envelope.specs.declared.sequence.Sequence.the-variants.{Ahead, Behind}
+use Rattle.envelope.specs.declared.writer.WriteFault.the-variants.{StrayIntegrity, NoRoom}
 use Rattle.envelope.specs.declared.writer.Writing.{Writing}
 use Rattle.envelope.specs.declared.writer.Writing.the-variants.{Written}
 use Rattle.sheet.specs.Cases.{M, likeM}
@@ -115,6 +116,20 @@ slice-begins-at-its-place kept = apart 7 8 tt (ap (λ (s : List ℕ). getD s 0 0
 
 pub slice-has-its-size : Slices (record { place = 1; size = 2 }) (7 ∷ 8 ∷ 9 ∷ []) (8 ∷ []) → ⊥
 slice-has-its-size kept = apart 1 2 tt (ap length kept)
+
+-- ---- the numbers of refusals: another rule's; one for all
+
+pub a-fault-keeps-its-number : NumbersFault TooShort 2 → ⊥
+a-fault-keeps-its-number kept = apart 2 1 tt kept
+
+pub faults-have-different-numbers : NumbersFault WrongVersion 1 → ⊥
+faults-have-different-numbers kept = apart 1 2 tt kept
+
+pub a-write-fault-keeps-its-number : NumbersWriteFault NoRoom 14 → ⊥
+a-write-fault-keeps-its-number kept = apart 14 15 tt kept
+
+pub write-faults-have-different-numbers : NumbersWriteFault StrayIntegrity 11 → ⊥
+write-faults-have-different-numbers kept = apart 11 14 tt kept
 
 -- ---- numbers: the lowest byte first; a byte forgotten
 
