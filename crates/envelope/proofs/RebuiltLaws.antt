@@ -43,7 +43,7 @@ front (suc n) i s h =
     rw (drop-cons s i 0 (omega arith), e) (ap (λ (l : List ℕ). getD s i 0 ∷ l) (front n (suc i) s (omega arith)))
 
 -- a part that lies inside a front is a part of the whole
-part-of-front : (m n k : ℕ) (l : List ℕ) → n + m ≤ k → take m (drop n (take k l)) ≡ take m (drop n l)
+pub part-of-front : (m n k : ℕ) (l : List ℕ) → n + m ≤ k → take m (drop n (take k l)) ≡ take m (drop n l)
 part-of-front m zero k l h = take-take m k l (omega arith)
 part-of-front m (suc n) zero l h = absurd (omega arith)
 part-of-front m (suc n) (suc k) [] h = refl

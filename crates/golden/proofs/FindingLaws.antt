@@ -1,0 +1,90 @@
+-- Check and find, one record on as their loops meet them, and the step of the walk: which case holds, from the tests of the code.
+use mathlib.Core.Bool.{Bool, true, false, cond}
+use mathlib.Core.List.{List}
+use mathlib.Core.Path.{_≡_, ap, sym, _∙_}
+use Prim.Native.Nat.{ℕ, suc, _+_, _-_, _≤_, _<_}
+use native.Mathlib.Omega.{arith}
+use Rattle.envelope.specs.Fields.{Fields}
+use Rattle.golden.specs.Checking.{CheckAnswer, counted, unlessBad, checkFrom, checking}
+use Rattle.golden.specs.Checking as check
+use Rattle.golden.specs.File.{badFile, countOf, recordAt, judgedAt}
+use Rattle.golden.specs.Finding.{NameFields, FindAnswer, decides, findFrom, finding}
+use Rattle.golden.specs.Finding as find
+use Rattle.golden.specs.Helpers.{holding, spoilt, openedAs, opening}
+use Rattle.golden.specs.Record.{storedLength, Judged, good, bad, judging}
+use Rattle.golden.specs.Refusal.{Refused, plainly}
+
+-- ---- what opening a record says of its judgement
+
+as-spoilt : (size : ℕ) (j : Judged) (r : Refused) → spoilt r ≡ openedAs size j → j ≡ bad r
+as-spoilt size (good f) r e = cc
+as-spoilt size (bad x) r e = cc
+
+as-holding : (size l : ℕ) (j : Judged) (f : Fields) → holding l f ≡ openedAs size j → (j ≡ good f) × (l ≡ size)
+as-holding size l (good g) f e = (cc, cc)
+as-holding size l (bad x) f e = (cc, cc)
+
+pub judged-bad : (s : List ℕ) (n : ℕ) (r : Refused) → spoilt r ≡ opening (recordAt s n) → judgedAt s n ≡ bad r
+unfolding opening judgedAt
+judged-bad s n r e = as-spoilt (storedLength (recordAt s n)) (judging (recordAt s n)) r e
+
+pub judged-good : (s : List ℕ) (n l : ℕ) (f : Fields) → holding l f ≡ opening (recordAt s n)
+    → (judgedAt s n ≡ good f) × (l ≡ storedLength (recordAt s n))
+unfolding opening judgedAt
+judged-good s n l f e = as-holding (storedLength (recordAt s n)) l (judging (recordAt s n)) f e
+
+-- ---- check
+
+module _ (f : List ℕ) where
+  pub check-21 : badFile f ≡ true → check.refused 0 (plainly 21) ≡ checking f
+  unfolding checking
+  check-21 h = rw h
+
+  pub check-all : badFile f ≡ false → (x : CheckAnswer) → checkFrom f 0 (countOf f) ≡ x → x ≡ checking f
+  unfolding checking
+  check-all h x e = rw h (sym e)
+
+  pub check-start : (count : ℕ) → checkFrom f 0 count ≡ checkFrom f 0 (count - 0)
+  check-start count = ap (checkFrom f 0) (omega arith)
+
+  pub check-on : (n count : ℕ) → n < count → (j : Judged) → judgedAt f n ≡ j
+      → checkFrom f n (count - n) ≡ unlessBad n j (checkFrom f (n + 1) (count - (n + 1)))
+  unfolding checkFrom
+  check-on n count h j e =
+      let k : count - n ≡ suc (count - (n + 1)) = omega arith in
+      rw (k, e)
+
+  pub check-end : (n count : ℕ) → count ≤ n → checkFrom f n (count - n) ≡ counted n
+  unfolding checkFrom
+  check-end n count h = let k : count - n ≡ 0 = omega arith in rw k
+
+-- ---- find
+
+module _ (f : List ℕ) (name : NameFields) where
+  pub find-21 : badFile f ≡ true → find.refused (plainly 21) 0 ≡ finding f name
+  unfolding finding
+  find-21 h = rw h
+
+  pub find-all : badFile f ≡ false → (x : FindAnswer) → findFrom f name 0 (countOf f) ≡ x → x ≡ finding f name
+  unfolding finding
+  find-all h x e = rw h (sym e)
+
+  pub find-start : (count : ℕ) → findFrom f name 0 count ≡ findFrom f name 0 (count - 0)
+  find-start count = ap (findFrom f name 0) (omega arith)
+
+  pub find-on : (n count : ℕ) → n < count → (j : Judged) → judgedAt f n ≡ j
+      → findFrom f name n (count - n) ≡ decides name n j (findFrom f name (n + 1) (count - (n + 1)))
+  unfolding findFrom
+  find-on n count h j e =
+      let k : count - n ≡ suc (count - (n + 1)) = omega arith in
+      rw (k, e)
+
+  pub find-end : (n count : ℕ) → count ≤ n → findFrom f name n (count - n) ≡ find.refused (plainly 27) n
+  unfolding findFrom
+  find-end n count h = let k : count - n ≡ 0 = omega arith in rw k
+
+pub named : (b x : Bool) (a o : FindAnswer) → x ≡ b → x ≡ true → cond b a o ≡ a
+named b x a o e h = rw (sym e ∙ h)
+
+pub unnamed : (b x : Bool) (a o : FindAnswer) → x ≡ b → x ≡ false → cond b a o ≡ o
+unnamed b x a o e h = rw (sym e ∙ h)

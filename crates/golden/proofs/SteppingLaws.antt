@@ -1,0 +1,59 @@
+-- A record that is there: what a step, an entry and a comparison make of its judgement.
+-- And that the message of a good record lies inside the file, as the part that a step hands out.
+use mathlib.Core.Bool.{Bool, true, false, cond}
+use mathlib.Core.List.{List}
+use mathlib.Core.Path.{_≡_, refl, ap, sym, _∙_}
+use Prim.Native.Nat.{ℕ, _-_, _*_, _≤_, _<_}
+use native.Mathlib.Omega.{arith}
+use borrow.Author.Tests.{lt-leb}
+use lib.ListN.{take, drop}
+use lib.Seq.{drop-drop}
+use Rattle.envelope.proofs.RebuiltLaws.{part-of-front}
+use Rattle.envelope.specs.Fields.{Fields, partOf}
+use Rattle.golden.specs.File.{badFile, countOf, notThere, recordAt, judgedAt}
+use Rattle.golden.specs.Listing.{entryOf, entryAt}
+use Rattle.golden.specs.Record.{recordSize, headSize, longestMessage, storedLength, messageOf, Judged, good}
+use Rattle.golden.specs.Refusal.{plainly}
+use Rattle.golden.specs.Stepping.{StepAnswer, refused, end, messagePart, stepOf, stepAt}
+use Rattle.golden.proofs.RecordLaws.{good-record, length-most}
+
+module _ (f : List ℕ) (n count : ℕ) (e : count ≡ countOf f) (h : badFile f ≡ false) (l : n < count) (j : Judged) (q : judgedAt f n ≡ j) where
+  pub there-steps : stepOf f n j ≡ stepAt f n
+  unfolding stepAt
+  there-steps = rw (h, ← e, lt-leb _ _ l, q)
+
+  pub there-entered : entryOf f n j ≡ entryAt f n
+  unfolding entryAt
+  there-entered = rw (h, ← e, lt-leb _ _ l, q)
+
+-- ---- back from the answer of a step
+
+pub data Reason (f : List ℕ) (n : ℕ) : StepAnswer → Type 0 where
+  at-21 : badFile f ≡ true → Reason f n (refused (plainly 21))
+  at-end : badFile f ≡ false → notThere f n ≡ true → Reason f n end
+  at-record : badFile f ≡ false → notThere f n ≡ false → (j : Judged) → judgedAt f n ≡ j → Reason f n (stepOf f n j)
+
+pub reason : (f : List ℕ) (n : ℕ) → Reason f n (stepAt f n)
+unfolding stepAt
+reason f n = go (badFile f) refl (notThere f n) refl
+  where
+    go : (a : Bool) → badFile f ≡ a → (b : Bool) → notThere f n ≡ b
+        → Reason f n (cond a (refused (plainly 21)) (cond b end (stepOf f n (judgedAt f n))))
+    go true ea b eb = at-21 ea
+    go false ea true eb = at-end ea eb
+    go false ea false eb = at-record ea eb (judgedAt f n) refl
+
+-- ---- the message of a good record
+
+pub good-size : (f : List ℕ) (n : ℕ) (fields : Fields) → judgedAt f n ≡ good fields → storedLength (recordAt f n) ≤ longestMessage
+unfolding judgedAt
+good-size f n fields e = length-most _ (good-record (recordAt f n) fields e .size)
+
+-- the part that a step hands out holds the record's message
+pub part-is-message : (f : List ℕ) (n : ℕ) (fields : Fields) → judgedAt f n ≡ good fields
+    → partOf f (messagePart f n) ≡ messageOf (recordAt f n)
+part-is-message f n fields e =
+    let size = storedLength (recordAt f n) in
+    let k = good-size f n fields e in
+    ap (take size) (sym (drop-drop headSize (n * recordSize) f))
+    ∙ sym (part-of-front size headSize recordSize (drop (n * recordSize) f) (omega arith))

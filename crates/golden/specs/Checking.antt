@@ -1,0 +1,36 @@
+-- Check: the count, or the first bad record's number and refusal; record 0 for 21.
+use Prim.Native.Nat.{ℕ, zero, suc, _+_}
+use mathlib.Core.Bool.{cond}
+use mathlib.Core.List.{List}
+use mathlib.Core.Path.{_≡_}
+use Rattle.golden.specs.File.{badFile, countOf, judgedAt}
+use Rattle.golden.specs.Record.{Judged, good, bad}
+use Rattle.golden.specs.Refusal.{Refused, plainly, toldRecordFault}
+use Rattle.golden.specs.declared.checker.Checking.{Checking}
+use Rattle.golden.specs.declared.checker.Checking.the-variants.{Count, NotAFile, Bad}
+
+pub data CheckAnswer : Type 0 where
+  counted : ℕ → CheckAnswer
+  refused : ℕ → Refused → CheckAnswer
+
+-- record n decides, or the others do
+abbrev pub unlessBad : ℕ → Judged → CheckAnswer → CheckAnswer
+unlessBad n (bad r) others = refused n r
+unlessBad n (good f) others = others
+
+-- the records from n on, of which there are so many
+unfoldable pub checkFrom : List ℕ → ℕ → ℕ → CheckAnswer
+checkFrom f n zero = counted n
+checkFrom f n (suc left) = unlessBad n (judgedAt f n) (checkFrom f (n + 1) left)
+
+unfoldable pub checking : List ℕ → CheckAnswer
+checking f = cond (badFile f) (refused 0 (plainly 21)) (checkFrom f 0 (countOf f))
+
+abbrev pub toldChecking : Checking → CheckAnswer
+toldChecking (Count n) = counted n
+toldChecking NotAFile = refused 0 (plainly 21)
+toldChecking (Bad n fault) = refused n (toldRecordFault fault)
+
+-- what `check` promises
+abbrev pub Checks : List ℕ → Checking → Type 0
+Checks f r = toldChecking r ≡ checking f

@@ -1,0 +1,11 @@
+pub mod Refusal
+pub mod Record
+pub mod File
+pub mod Checking
+pub mod Finding
+pub mod Stepping
+pub mod Listing
+pub mod Positions
+pub mod Comparing
+pub mod Making
+pub mod Helpers

@@ -1,0 +1,51 @@
+-- What a listing needs: the count of a file, and of each record the type, number and length of its message, or its refusal.
+use Prim.Native.Nat.{ℕ}
+use mathlib.Core.Bool.{cond}
+use mathlib.Core.List.{List}
+use mathlib.Core.Path.{_≡_}
+use Rattle.golden.specs.File.{badFile, countOf, notThere, recordAt, judgedAt}
+use Rattle.golden.specs.Record.{storedLength, Judged, good, bad}
+use Rattle.golden.specs.Refusal.{Refused, plainly, toldRecordFault}
+use Rattle.golden.specs.declared.lister.Counting.{Counting}
+use Rattle.golden.specs.declared.lister.Counting.the-variants as counts
+use Rattle.golden.specs.declared.lister.Entry.{Entry}
+use Rattle.golden.specs.declared.lister.Entry.the-variants as entries
+
+pub data CountAnswer : Type 0 where
+  counted : ℕ → CountAnswer
+  refused : Refused → CountAnswer
+
+unfoldable pub counting : List ℕ → CountAnswer
+counting f = cond (badFile f) (refused (plainly 21)) (counted (countOf f))
+
+abbrev pub toldCounting : Counting → CountAnswer
+toldCounting (counts.Count n) = counted n
+toldCounting counts.NotAFile = refused (plainly 21)
+
+-- what `count` promises
+abbrev pub Counts : List ℕ → Counting → Type 0
+Counts f r = toldCounting r ≡ counting f
+
+pub data EntryAnswer : Type 0 where
+  line : (messageType number size : ℕ) → EntryAnswer
+  refusedLine : Refused → EntryAnswer
+
+abbrev pub entryOf : List ℕ → ℕ → Judged → EntryAnswer
+entryOf f n (good fields) = line (fields .header .messageType) (fields .header .number) (storedLength (recordAt f n))
+entryOf f n (bad r) = refusedLine r
+
+unfoldable pub entryAt : List ℕ → ℕ → EntryAnswer
+entryAt f n =
+    cond (badFile f) (refusedLine (plainly 21))
+    (cond (notThere f n) (refusedLine (plainly 22))
+    (entryOf f n (judgedAt f n)))
+
+abbrev pub toldEntry : Entry → EntryAnswer
+toldEntry (entries.Good messageType number size) = line messageType number size
+toldEntry (entries.Bad fault) = refusedLine (toldRecordFault fault)
+toldEntry entries.NoRecord = refusedLine (plainly 22)
+toldEntry entries.NotAFile = refusedLine (plainly 21)
+
+-- what `entry` promises
+abbrev pub Enters : List ℕ → ℕ → Entry → Type 0
+Enters f n r = toldEntry r ≡ entryAt f n

@@ -1,0 +1,60 @@
+-- A record: 512 bytes, the stored length L, then L bytes of message, and every byte after the message zero.
+-- `r` is the list of a record's bytes.
+use Prim.Native.Nat.{ℕ, _+_, _-_}
+use mathlib.Core.Bool.{Bool, true, cond, not, _&&_, _||_}
+use mathlib.Core.List.{List, [], _∷_}
+use lib.Dec.{eqb, ltb}
+use lib.ListN.{take, drop}
+use Rattle.envelope.specs.Fields.{Fields, Answer, accepted, refused}
+use Rattle.envelope.specs.Layout.{leastSize}
+use Rattle.envelope.specs.Numbers.{twoAt}
+use Rattle.envelope.specs.Reading.{reading}
+use Rattle.golden.specs.Refusal.{Refused, plainly, passingOn}
+
+abbrev pub recordSize : ℕ
+recordSize = 512
+
+-- the stored length's own bytes
+abbrev pub headSize : ℕ
+headSize = 2
+
+abbrev pub longestMessage : ℕ
+longestMessage = recordSize - headSize
+
+-- the number in bytes 0 and 1, and the length that it states
+unfoldable pub storedWord : List ℕ → ℕ
+storedWord r = twoAt r 0
+
+unfoldable pub storedLength : List ℕ → ℕ
+storedLength r = storedWord r
+
+abbrev pub messageOf : List ℕ → List ℕ
+messageOf r = take (storedLength r) (drop headSize r)
+
+unfoldable pub allZero : List ℕ → Bool
+allZero [] = true
+allZero (b ∷ bs) = eqb b 0 && allZero bs
+
+-- 23
+unfoldable pub badLength : ℕ → Bool
+badLength l = ltb l leastSize || ltb longestMessage l
+
+-- 24
+abbrev pub notClear : List ℕ → Bool
+notClear r = not (allZero (drop (headSize + storedLength r) r))
+
+-- a good record with the fields of its message, or the first refusal that applies
+pub data Judged : Type 0 where
+  good : Fields → Judged
+  bad : Refused → Judged
+
+-- 25
+abbrev pub byReading : Answer → Judged
+byReading (accepted f) = good f
+byReading (refused r) = bad (passingOn 25 (r .number))
+
+unfoldable pub judging : List ℕ → Judged
+judging r =
+    cond (badLength (storedLength r)) (bad (plainly 23))
+    (cond (notClear r) (bad (plainly 24))
+    (byReading (reading (messageOf r))))

@@ -1,0 +1,46 @@
+-- Walk: a step answers the message of a record as a part of the file, its refusal, or the end, and the number of the next record.
+-- That is one on, except at the end and at 21, where the walk stays. A number at or past the count is the end.
+use Prim.Native.Nat.{ℕ, _+_, _*_}
+use mathlib.Core.Bool.{cond}
+use mathlib.Core.List.{List}
+use mathlib.Core.Path.{_≡_}
+use Rattle.envelope.specs.Fields.{Span}
+use Rattle.envelope.specs.Told.{toldPart}
+use Rattle.golden.specs.File.{badFile, notThere, recordAt, judgedAt}
+use Rattle.golden.specs.Record.{recordSize, headSize, storedLength, Judged, good, bad}
+use Rattle.golden.specs.Refusal.{Refused, plainly, toldRecordFault}
+use Rattle.golden.specs.declared.stepper.Reached.{Reached}
+use Rattle.golden.specs.declared.stepper.Reached.the-variants.{Message, Bad, NotAFile, End}
+use Rattle.golden.specs.declared.stepper.Stepping.{Stepping}
+
+pub data StepAnswer : Type 0 where
+  message : Span → StepAnswer
+  refused : Refused → StepAnswer
+  end : StepAnswer
+
+-- the message of record n, as a part of the file
+abbrev pub messagePart : List ℕ → ℕ → Span
+messagePart f n = record { place = n * recordSize + headSize; size = storedLength (recordAt f n) }
+
+abbrev pub stepOf : List ℕ → ℕ → Judged → StepAnswer
+stepOf f n (good fields) = message (messagePart f n)
+stepOf f n (bad r) = refused r
+
+unfoldable pub stepAt : List ℕ → ℕ → StepAnswer
+stepAt f n =
+    cond (badFile f) (refused (plainly 21))
+    (cond (notThere f n) end
+    (stepOf f n (judgedAt f n)))
+
+unfoldable pub nextAfter : List ℕ → ℕ → ℕ
+nextAfter f n = cond (badFile f) n (cond (notThere f n) n (n + 1))
+
+abbrev pub toldReached : Reached → StepAnswer
+toldReached (Message part) = message (toldPart part)
+toldReached (Bad fault) = refused (toldRecordFault fault)
+toldReached NotAFile = refused (plainly 21)
+toldReached End = end
+
+-- what `step` promises
+abbrev pub Steps : List ℕ → ℕ → Stepping → Type 0
+Steps f n r = (toldReached (r .answer) ≡ stepAt f n) × (r .next ≡ nextAfter f n)

@@ -1,0 +1,62 @@
+// The walk's step, from a file and a number.
+ghost use mathlib.Core.Path.{_≡_};
+ghost use Rattle.golden.specs.Stepping.{stepAt, nextAfter, toldReached, Steps};
+use crate::file::count_of;
+use crate::file::open_at;
+use crate::file::refused;
+use crate::record::Opening;
+use crate::record::Record;
+use crate::record::RecordFault;
+use envelope::Part;
+
+pub enum Reached {
+    Message(Part),
+    Bad(RecordFault),
+    NotAFile,
+    End,
+}
+
+// The answer, and the number of the next record.
+pub struct Stepping {
+    pub answer: Reached,
+    pub next: usize,
+}
+
+pub fn step(file: &[u8], n: usize) -> Stepping
+    ensures { λ r. ⌜ Steps (now (file .entry)) n r ⌝ }
+{
+    let answer = answer_at(file, n);
+    let next = next_after(file, n);
+    Stepping { answer, next }
+}
+
+pub(crate) fn answer_at(file: &[u8], n: usize) -> Reached
+    ensures { λ r. ⌜ toldReached r ≡ stepAt (now (file .entry)) n ⌝ }
+{
+    if refused(file) {
+        return Reached::NotAFile;
+    }
+    if count_of(file) <= n {
+        return Reached::End;
+    }
+    match open_at(file, n) {
+        Opening::Good(good) => Reached::Message(Part {
+            place: n * Record::SIZE + Record::HEAD,
+            size: good.size,
+        }),
+        Opening::Bad(fault) => Reached::Bad(fault),
+    }
+}
+
+// One on, except at the end and where the file is refused.
+pub(crate) fn next_after(file: &[u8], n: usize) -> usize
+    ensures { λ r. ⌜ r ≡ nextAfter (now (file .entry)) n ⌝ }
+{
+    if refused(file) {
+        return n;
+    }
+    if count_of(file) <= n {
+        return n;
+    }
+    n + 1
+}
