@@ -4,7 +4,7 @@ use mathlib.Core.List.{List}
 use mathlib.Core.Path.{_≡_, refl, sym, ap, _∙_}
 use Prim.Native.Nat.{ℕ, zero, suc, _-_}
 use lib.ListN.{length}
-use Rattle.sum.proofs.Laws.{only-by-telling}
+pub use Rattle.sum.proofs.Laws.{only-by-telling}
 use Rattle.sum.specs.Promise.{Only₁}
 use Rattle.envelope.specs.Fields.{Span, HeaderFields, AddressingFields, absent, present, IntegrityFields, none, crc, application, Answer, accepted, refused}
 use Rattle.envelope.specs.Lateness.{LatenessAnswer, noClock, late, inTime, lateness, toldLateness, JudgesLateness}
@@ -46,7 +46,7 @@ use Rattle.envelope.specs.declared.writer.Writing.the-variants.{Written,
 
 -- ---- reading
 
-abbrev untoldFault : ℕ → Fault
+abbrev pub untoldFault : ℕ → Fault
 untoldFault zero = TooShort
 untoldFault (suc zero) = TooShort
 untoldFault (suc (suc zero)) = WrongVersion
@@ -56,7 +56,7 @@ untoldFault (suc (suc (suc (suc (suc zero))))) = WrongLength
 untoldFault (suc (suc (suc (suc (suc (suc zero)))))) = BadAddresses
 untoldFault (suc (suc (suc (suc (suc (suc (suc n))))))) = BadIntegrity
 
-untold-fault : (f : Fault) → untoldFault (toldFault f) ≡ f
+pub untold-fault : (f : Fault) → untoldFault (toldFault f) ≡ f
 untold-fault TooShort = refl
 untold-fault WrongVersion = refl
 untold-fault BadFlags = refl

@@ -6,3 +6,4 @@ pub mod ComparingLaws
 pub mod FindingLaws
 pub mod SteppingLaws
 pub mod MakingLaws
+pub mod OnlyLaws

@@ -4,6 +4,7 @@ pub mod File
 pub mod Checking
 pub mod Finding
 pub mod Stepping
+pub mod Walking
 pub mod Listing
 pub mod Positions
 pub mod Comparing

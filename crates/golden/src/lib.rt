@@ -9,6 +9,7 @@ pub mod maker;
 mod positions;
 pub mod record;
 pub mod stepper;
+pub mod walker;
 
 pub use crate::checker::Checking;
 pub use crate::checker::check;
@@ -28,3 +29,4 @@ pub use crate::record::RecordFault;
 pub use crate::stepper::Reached;
 pub use crate::stepper::Stepping;
 pub use crate::stepper::step;
+pub use crate::walker::Walk;
