@@ -10,7 +10,7 @@ use lib.Seq.{ext-getD, getD-take, getD-drop, length-take-le, take-add}
 use Rattle.sum.specs.Crc.{crc32}
 use Rattle.sum.specs.Detection.{Bytes}
 use Rattle.sum.proofs.Bursts.{detects-four-bytes, detects-bits}
-use Rattle.sum.proofs.Laws.{bytes-take, bytes-drop}
+pub use Rattle.sum.proofs.Laws.{bytes-take, bytes-drop}
 use Rattle.envelope.specs.Demand3.{DeclaresCrc, before, field, SameOutside, Demand3, Demand3Bits}
 use Rattle.envelope.specs.Layout.{fieldSize}
 use Rattle.envelope.specs.Message.{inFour}

@@ -7,3 +7,7 @@ pub mod FindingLaws
 pub mod SteppingLaws
 pub mod MakingLaws
 pub mod OnlyLaws
+pub mod WalkLaws
+pub mod CheckedLaws
+pub mod DemandLaws
+pub mod MadeLaws

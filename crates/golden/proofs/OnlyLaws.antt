@@ -4,6 +4,7 @@ use mathlib.Core.Bool.{cond}
 use mathlib.Core.List.{List}
 use mathlib.Core.Path.{_≡_, refl, sym, _∙_}
 use Prim.Native.Nat.{ℕ}
+use denote.Ref.{RefT, now}
 use lib.Dec.{eqb}
 use lib.ListN.{length}
 use Rattle.envelope.proofs.OnlyLaws.{only-by-telling, untoldFault, untold-fault}
@@ -15,6 +16,7 @@ use Rattle.golden.specs.Listing as list
 use Rattle.golden.specs.Making as make
 use Rattle.golden.specs.Refusal.{Refused, toldRecordFault, toldNumbers, NumbersRecordFault}
 use Rattle.golden.specs.Stepping as step
+use Rattle.golden.specs.Walking.{Begins, Walks}
 use Rattle.golden.specs.declared.checker.Checking.{Checking}
 use Rattle.golden.specs.declared.checker.Checking.the-variants as checking
 use Rattle.golden.specs.declared.comparer.Comparison.{Comparison}
@@ -28,12 +30,11 @@ use Rattle.golden.specs.declared.lister.Entry.{Entry}
 use Rattle.golden.specs.declared.lister.Entry.the-variants as entry
 use Rattle.golden.specs.declared.maker.Making.{Making}
 use Rattle.golden.specs.declared.maker.Making.the-variants as making
-use Rattle.golden.specs.declared.record.Numbers.{Numbers}
 use Rattle.golden.specs.declared.record.RecordFault.{RecordFault}
 use Rattle.golden.specs.declared.record.RecordFault.the-variants.{BadLength, NotClear, Unread}
 use Rattle.golden.specs.declared.stepper.Reached.{Reached}
 use Rattle.golden.specs.declared.stepper.Reached.the-variants as reached
-use Rattle.golden.specs.declared.stepper.Stepping.{Stepping}
+use Rattle.golden.specs.declared.walker.Walk.{Walk}
 
 -- ---- a record's fault
 
@@ -182,3 +183,14 @@ untold-making making.WrongBuffer = refl
 pub only-makes : (m entry : List ℕ) → Only₂ (make.Makes m entry)
 only-makes m entry a b x y p q =
     (only-by-telling make.toldMaking untoldMaking untold-making (make.making m (length entry)) a b (p .0) (q .0), p .1 ∙ sym (q .1))
+
+-- ---- the walk: the answer and the whole walk afterwards
+
+pub only-begins : (file : RefT (List ℕ)) → Only₁ (Begins file)
+only-begins file a b p q = λ i. record { file = (p .0 ∙ sym (q .0)) i; next = (p .1 ∙ sym (q .1)) i }
+
+pub only-walks : (w : Walk) → Only₂ (Walks w)
+only-walks w a b x y p q = (
+  only-reached (now (w .file)) (w .next) a b (p .0) (q .0),
+  λ i. record { file = (p .1 .0 ∙ sym (q .1 .0)) i; next = (p .1 .1 ∙ sym (q .1 .1)) i },
+)

@@ -3,18 +3,19 @@
 use mathlib.Core.Bool.{Bool, true, false, cond}
 use mathlib.Core.List.{List}
 use mathlib.Core.Path.{_≡_, refl}
-use Prim.Native.Nat.{ℕ, _+_, _-_, _≤_, _<_}
+use Prim.Native.Nat.{ℕ, _+_, _-_, _*_, _≤_, _<_}
 use native.Mathlib.Numerals.{add-one}
 use native.Mathlib.Omega.{arith}
 use borrow.Author.Tests.{eq-eqb, ne-eqb, le-ltb, ltb-false}
 use lib.Dec.{ltb}
 use lib.ListN.{length, take, drop, getD, drop-of-length-le, length-drop}
-use lib.Seq.{drop-cons, take-all}
+use lib.Seq.{drop-cons, take-all, length-take-le}
 use Rattle.envelope.proofs.BoolLaws.{neither}
 use Rattle.envelope.specs.Fields.{Fields, Answer, accepted, refused}
 use Rattle.envelope.specs.Layout.{leastSize}
 use Rattle.envelope.specs.Reading.{reading}
-use Rattle.golden.specs.Record.{longestMessage, storedLength, messageOf, allZero, badLength, notClear, Judged, good, bad, byReading, judging}
+use Rattle.golden.specs.File.{countOf, recordAt}
+use Rattle.golden.specs.Record.{recordSize, headSize, longestMessage, storedLength, messageOf, allZero, badLength, notClear, Judged, good, bad, byReading, judging}
 use Rattle.golden.specs.Refusal.{Refused}
 
 -- ---- a scan for zeros, one byte on
@@ -74,3 +75,13 @@ good-record r f e =
 pub record-good : (r : List ℕ) (f : Fields) → Good r f → judging r ≡ good f
 unfolding judging
 record-good r f g = rw (g .size, g .clear, g .accepts)
+
+-- ---- how long they are
+
+pub record-long : (f : List ℕ) (n : ℕ) → n < countOf f → length (recordAt f n) ≡ recordSize
+record-long f n l = length-take-le recordSize (drop (n * recordSize) f) (rw length-drop (omega arith))
+
+pub message-long : (f : List ℕ) (n : ℕ) → n < countOf f → storedLength (recordAt f n) ≤ longestMessage
+    → length (messageOf (recordAt f n)) ≡ storedLength (recordAt f n)
+message-long f n l short =
+    length-take-le (storedLength (recordAt f n)) (drop headSize (recordAt f n)) (rw length-drop (omega (arith, record-long f n l)))

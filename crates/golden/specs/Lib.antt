@@ -10,3 +10,4 @@ pub mod Positions
 pub mod Comparing
 pub mod Making
 pub mod Helpers
+pub mod Theorems

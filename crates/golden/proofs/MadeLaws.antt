@@ -1,0 +1,159 @@
+-- The file of one record that make writes: its parts are what was put in, so it checks, compares same and is found.
+-- And 25 never carries 1, since a stored length below 21 is refused first.
+use mathlib.Core.Bool.{Bool, true, false, cond, not}
+use mathlib.Core.List.{List, [], _++_}
+use mathlib.Core.Path.{_≡_, refl, ap, _∙_, subst}
+use Prim.Native.Nat.{ℕ, zero, suc, _+_, _-_, _*_, _/_, _%_, _≤_, _<_}
+use native.Mathlib.Omega.{arith}
+use borrow.Author.Tests.{eq-eqb, le-ltb, lt-leb}
+use lib.Dec.{T, T-not, eqb, eqb-refl}
+use lib.ListN.{length, take, drop, getD, replicate}
+use lib.Seq.{take-all, take-append-seam, drop-append-seam, drop-append-add}
+use Rattle.envelope.proofs.ReadingLaws.{accepted-least, long-not-1}
+use Rattle.envelope.specs.Fields.{Fields, Answer, accepted, refusal}
+use Rattle.envelope.specs.Fields as envelope
+use Rattle.envelope.specs.Message.{inTwo}
+use Rattle.envelope.specs.Numbers.{twoAt}
+use Rattle.envelope.specs.Reading.{reading}
+use Rattle.golden.specs.Checking.{counted, checkFrom, checking}
+use Rattle.golden.specs.Comparing.{differsAt, differing, properBeginning, positions, comparingMessages, comparing, same, answerOf}
+use Rattle.golden.specs.File.{badFile, countOf, recordAt, judgedAt}
+use Rattle.golden.specs.Finding.{found, findFrom, finding}
+use Rattle.golden.specs.Making.{recordOf}
+use Rattle.golden.specs.Positions.{select}
+use Rattle.golden.specs.Record.{recordSize, headSize, longestMessage, storedWord, storedLength, messageOf, allZero, badLength, notClear, Judged, good, bad, byReading, judging}
+use Rattle.golden.specs.Refusal.{plainly, passingOn}
+use Rattle.golden.specs.Theorems.{nameOf, MadeIsGood, NeverTooShort}
+use Rattle.golden.proofs.MakingLaws.{record-length}
+use Rattle.golden.proofs.RecordLaws.{length-least, length-most, length-kept, record-good, message-long}
+
+apart : (a b : ℕ) → T (not (eqb a b)) → a ≡ b → ⊥
+apart a b t e = T-not (eqb a b) t (subst (λ (n : ℕ). T (eqb a n)) e (eqb-refl a))
+
+-- ---- the parts of a record that was made
+
+stored-back : (m : List ℕ) → storedLength (recordOf m) ≡ length m
+unfolding storedLength storedWord twoAt recordOf
+stored-back m = two-back (length m)
+  where
+    two-back : (n : ℕ) → n / 256 * 256 + n % 256 ≡ n
+    two-back n = omega arith
+
+message-back : (m : List ℕ) → messageOf (recordOf m) ≡ m
+unfolding recordOf
+message-back m = ap (λ (n : ℕ). take n (drop headSize (recordOf m))) (stored-back m) ∙ take-append-seam m (replicate (longestMessage - length m) 0)
+
+zeros-clear : (k : ℕ) → allZero (replicate k 0) ≡ true
+unfolding allZero
+zeros-clear zero = refl
+zeros-clear (suc k) = zeros-clear k
+
+after-message : (m : List ℕ) → drop (headSize + length m) (recordOf m) ≡ replicate (longestMessage - length m) 0
+unfolding recordOf
+after-message m =
+    drop-append-add (inTwo (length m)) (m ++ replicate (longestMessage - length m) 0) (length m)
+    ∙ drop-append-seam m (replicate (longestMessage - length m) 0)
+
+clear-back : (m : List ℕ) → notClear (recordOf m) ≡ false
+clear-back m =
+    ap (λ (r : List ℕ). not (allZero r)) (ap (λ (n : ℕ). drop (headSize + n) (recordOf m)) (stored-back m) ∙ after-message m)
+    ∙ ap not (zeros-clear (longestMessage - length m))
+
+-- ---- comparing a message with itself
+
+no-difference : (m : List ℕ) (i : ℕ) → i < length m → differsAt m m i ≡ false
+unfolding differsAt
+no-difference m i h = rw (lt-leb (length m) i h, eq-eqb (getD m i 0) (getD m i 0) refl)
+
+select-none : (p : ℕ → Bool) (k n : ℕ) → ((i : ℕ) → k ≤ i → i < k + n → p i ≡ false) → select p k n ≡ []
+unfolding select
+select-none p k zero h = refl
+select-none p k (suc n) h = rw (h k (omega arith) (omega arith)) (select-none p (k + 1) n (λ i a b. h i (omega arith) (omega arith)))
+
+no-differences : (m : List ℕ) → differing m m ≡ []
+unfolding differing
+no-differences m =
+    rw (le-ltb (length m) (length m) (omega arith))
+    (select-none (differsAt m m) 0 (length m) (λ i a b. no-difference m i (omega arith)))
+
+not-its-own-beginning : (m : List ℕ) → properBeginning m m ≡ false
+unfolding properBeginning
+not-its-own-beginning m = rw (le-ltb (length m) (length m) (omega arith))
+
+compares-same : (m : List ℕ) → comparingMessages m m ≡ positions []
+unfolding comparingMessages
+compares-same m = rw (not-its-own-beginning m) (ap positions (no-differences m))
+
+-- ---- the file of one record
+
+module _ (m : List ℕ) (fields : Fields) (short : length m ≤ longestMessage) (accepts : reading m ≡ accepted fields) where
+  abbrev file : List ℕ
+  file = recordOf m
+
+  size : length file ≡ recordSize
+  size = record-length m short
+
+  one : countOf file ≡ 1
+  one = ap (λ (n : ℕ). n / recordSize) size
+
+  whole : badFile file ≡ false
+  unfolding badFile
+  whole = rw size
+
+  first : recordAt file 0 ≡ file
+  first = take-all recordSize file (omega (arith, size))
+
+  judged : judgedAt file 0 ≡ good fields
+  unfolding judgedAt
+  judged =
+      rw first
+      (record-good file fields
+      (record {
+        size = rw (stored-back m) (length-kept (length m) (accepted-least m fields accepts) short);
+        clear = clear-back m;
+        accepts = rw (message-back m) accepts;
+      }))
+
+  checks : checking file ≡ counted 1
+  unfolding checking checkFrom
+  checks = rw (whole, one, judged)
+
+  compares : answerOf (comparing file 0 m) ≡ same
+  unfolding comparing answerOf
+  compares = rw (whole, one, judged, accepts, first, message-back m, compares-same m)
+
+  finds : finding file (nameOf fields) ≡ found 0 1
+  unfolding finding findFrom
+  finds =
+      rw (whole, one, judged, eq-eqb (fields .header .messageType) (fields .header .messageType) refl, eq-eqb (fields .header .number) (fields .header .number) refl)
+
+pub made-is-good : MadeIsGood
+made-is-good m fields short accepts =
+    record { checks = checks m fields short accepts; compares = compares m fields short accepts; finds = finds m fields short accepts }
+
+-- ---- 25 never carries 1
+
+numberIn : Judged → ℕ
+numberIn (good f) = 0
+numberIn (bad r) = r .number
+
+readingIn : Judged → ℕ
+readingIn (good f) = 0
+readingIn (bad r) = r .reading
+
+bad-reading : (a b : Bool) (x : Answer) → cond a (bad (plainly 23)) (cond b (bad (plainly 24)) (byReading x)) ≡ bad (passingOn 25 1)
+    → (a ≡ false) × (x ≡ refusal 1)
+unfolding numberIn readingIn
+bad-reading true b x e = absurd (apart 23 25 tt (ap numberIn e))
+bad-reading false true x e = absurd (apart 24 25 tt (ap numberIn e))
+bad-reading false false (accepted f) e = absurd (apart 0 25 tt (ap numberIn e))
+bad-reading false false (envelope.refused r) e = (refl, λ i. envelope.refused (record { number = readingIn (e i) }))
+
+pub never-too-short : NeverTooShort
+unfolding judgedAt judging
+never-too-short f n l e =
+    let r = recordAt f n in
+    let b = bad-reading (badLength (storedLength r)) (notClear r) (reading (messageOf r)) e in
+    let low = length-least (storedLength r) (b .0) in
+    let high = length-most (storedLength r) (b .0) in
+    long-not-1 (messageOf r) (rw (message-long f n l high) low) (b .1)

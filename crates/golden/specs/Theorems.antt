@@ -1,0 +1,97 @@
+-- What users of a golden file rely on. Each statement is a type here; the proofs stand in proofs/ (WalkLaws, CheckedLaws, MadeLaws, DemandLaws).
+-- `f` and `g` are files, `n` counts records.
+use Prim.Native.Nat.{ℕ, zero, suc, _+_, _*_, _≤_, _<_}
+use mathlib.Core.Bool.{true, false}
+use mathlib.Core.List.{List}
+use mathlib.Core.Path.{_≡_}
+use lib.ListN.{length}
+use Rattle.envelope.specs.Demand3.{DeclaresCrc, Window, SameOutside}
+use Rattle.envelope.specs.Fields.{Fields, accepted}
+use Rattle.envelope.specs.Promise.{Bytes}
+use Rattle.envelope.specs.Reading.{reading}
+use Rattle.golden.specs.Checking.{counted, checking}
+use Rattle.golden.specs.Comparing.{comparing, same, answerOf}
+use Rattle.golden.specs.File.{badFile, countOf, recordAt, judgedAt}
+use Rattle.golden.specs.Finding.{NameFields, hasName, FindAnswer, found, finding}
+use Rattle.golden.specs.Finding as find
+use Rattle.golden.specs.Making.{recordOf}
+use Rattle.golden.specs.Record.{recordSize, headSize, longestMessage, messageOf, good, bad}
+use Rattle.golden.specs.Refusal.{plainly, passingOn}
+use Rattle.golden.specs.Stepping.{end, stepAt, nextAfter}
+use Rattle.golden.specs.Stepping as step
+
+-- ---- walk
+
+-- the number that so many steps of a fresh walk lead to
+unfoldable pub numberAfter : List ℕ → ℕ → ℕ
+numberAfter f zero = 0
+numberAfter f (suc steps) = nextAfter f (numberAfter f steps)
+
+-- steps 0 to count - 1 answer records 0 to count - 1 in order, and every later one the end
+pub record WalksInOrder (f : List ℕ) : Type 0 where
+  pub in-order : (k : ℕ) → k < countOf f → numberAfter f k ≡ k
+  pub then-the-end : (k : ℕ) → countOf f ≤ k → stepAt f (numberAfter f k) ≡ end
+
+abbrev pub FileWalksInOrder : Type 0
+FileWalksInOrder = (f : List ℕ) → badFile f ≡ false → WalksInOrder f
+
+-- on any other file every step answers 21
+abbrev pub OtherFileStays : Type 0
+OtherFileStays = (f : List ℕ) → badFile f ≡ true → (k : ℕ) → stepAt f (numberAfter f k) ≡ step.refused (plainly 21)
+
+-- ---- check and find
+
+pub record GoodAt (f : List ℕ) (k : ℕ) : Type 0 where
+  pub fields : Fields
+  pub judged : judgedAt f k ≡ good fields
+
+-- where check passes, it counts the file, and every record is good
+pub record AllGood (f : List ℕ) (n : ℕ) : Type 0 where
+  pub whole : badFile f ≡ false
+  pub count : n ≡ countOf f
+  pub records : (k : ℕ) → k < n → GoodAt f k
+
+abbrev pub CheckedAreGood : Type 0
+CheckedAreGood = (f : List ℕ) (n : ℕ) → checking f ≡ counted n → AllGood f n
+
+-- record i is good and has another name
+pub record NotNamed (f : List ℕ) (name : NameFields) (i : ℕ) : Type 0 where
+  pub fields : Fields
+  pub judged : judgedAt f i ≡ good fields
+  pub other : hasName name fields ≡ false
+
+-- the first record of the name, or 27 where none of n has it
+pub data FirstNamed (f : List ℕ) (name : NameFields) (n : ℕ) : FindAnswer → Type 0 where
+  first : (k : ℕ) (fields : Fields) → k < n → judgedAt f k ≡ good fields → hasName name fields ≡ true
+      → ((i : ℕ) → i < k → NotNamed f name i) → FirstNamed f name n (found k (k + 1))
+  none : ((i : ℕ) → i < n → NotNamed f name i) → FirstNamed f name n (find.refused (plainly 27) n)
+
+abbrev pub FindsTheFirst : Type 0
+FindsTheFirst = (f : List ℕ) (name : NameFields) (n : ℕ) → checking f ≡ counted n → FirstNamed f name n (finding f name)
+
+-- ---- make
+
+abbrev pub nameOf : Fields → NameFields
+nameOf fields = record { messageType = fields .header .messageType; number = fields .header .number }
+
+-- a file of the one record that make writes: it checks, compares same with its message, and is found by its name
+pub record MadeGood (m : List ℕ) (fields : Fields) : Type 0 where
+  pub checks : checking (recordOf m) ≡ counted 1
+  pub compares : answerOf (comparing (recordOf m) 0 m) ≡ same
+  pub finds : finding (recordOf m) (nameOf fields) ≡ found 0 1
+
+abbrev pub MadeIsGood : Type 0
+MadeIsGood = (m : List ℕ) (fields : Fields) → length m ≤ longestMessage → reading m ≡ accepted fields → MadeGood m fields
+
+-- ---- 25 never carries reading number 1: 23 comes first
+
+abbrev pub NeverTooShort : Type 0
+NeverTooShort = (f : List ℕ) (n : ℕ) → n < countOf f → judgedAt f n ≡ bad (passingOn 25 1) → ⊥
+
+-- ---- demand 3 for golden files: a change inside four neighbouring bytes of one record's message, before its integrity field or being it
+
+abbrev pub GoldenDemand3 : Type 0
+GoldenDemand3 =
+    (f g : List ℕ) (n r k : ℕ) → Bytes f → Bytes g → checking f ≡ counted n → checking g ≡ counted n → r < n
+    → DeclaresCrc (messageOf (recordAt f r)) → DeclaresCrc (messageOf (recordAt g r)) → Window k (length (messageOf (recordAt f r)))
+    → length f ≡ length g → SameOutside (r * recordSize + headSize + k) f g → f ≡ g
