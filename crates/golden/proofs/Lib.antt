@@ -10,4 +10,5 @@ pub mod OnlyLaws
 pub mod WalkLaws
 pub mod CheckedLaws
 pub mod DemandLaws
+pub mod KeptLaws
 pub mod MadeLaws

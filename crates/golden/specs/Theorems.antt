@@ -1,4 +1,4 @@
--- What users of a golden file rely on. Each statement is a type here; the proofs stand in proofs/ (WalkLaws, CheckedLaws, MadeLaws, DemandLaws).
+-- What users of a golden file rely on. Each statement is a type here; the proofs stand in proofs/ (WalkLaws, CheckedLaws, MadeLaws, KeptLaws, DemandLaws).
 -- `f` and `g` are files, `n` counts records.
 use Prim.Native.Nat.{ℕ, zero, suc, _+_, _*_, _≤_, _<_}
 use mathlib.Core.Bool.{true, false}
@@ -10,15 +10,17 @@ use Rattle.envelope.specs.Fields.{Fields, accepted}
 use Rattle.envelope.specs.Promise.{Bytes}
 use Rattle.envelope.specs.Reading.{reading}
 use Rattle.golden.specs.Checking.{counted, checking}
-use Rattle.golden.specs.Comparing.{comparing, same, answerOf}
+use Rattle.golden.specs.Comparing.{comparing, same, unlike, answerOf, toldComparison, Compares}
 use Rattle.golden.specs.File.{badFile, countOf, recordAt, judgedAt}
 use Rattle.golden.specs.Finding.{NameFields, hasName, FindAnswer, found, finding}
 use Rattle.golden.specs.Finding as find
-use Rattle.golden.specs.Making.{recordOf}
+use Rattle.golden.specs.Making.{recordOf, declined, toldMaking, Makes}
 use Rattle.golden.specs.Record.{recordSize, headSize, longestMessage, messageOf, good, bad}
-use Rattle.golden.specs.Refusal.{plainly, passingOn}
+use Rattle.golden.specs.Refusal.{Refused, plainly, passingOn}
 use Rattle.golden.specs.Stepping.{end, stepAt, nextAfter}
 use Rattle.golden.specs.Stepping as step
+use Rattle.golden.specs.declared.comparer.Comparison.{Comparison}
+use Rattle.golden.specs.declared.maker.Making.{Making}
 
 -- ---- walk
 
@@ -87,6 +89,17 @@ MadeIsGood = (m : List ℕ) (fields : Fields) → length m ≤ longestMessage �
 
 abbrev pub NeverTooShort : Type 0
 NeverTooShort = (f : List ℕ) (n : ℕ) → n < countOf f → judgedAt f n ≡ bad (passingOn 25 1) → ⊥
+
+-- ---- a refusal leaves what was lent as it was
+
+abbrev pub RefusedComparisonKeepsList : Type 0
+RefusedComparisonKeepsList =
+    (f : List ℕ) (n : ℕ) (radio entry exit : List ℕ) (a : Comparison) (r : Refused)
+    → Compares f n radio entry a exit → toldComparison a ≡ unlike r → exit ≡ entry
+
+abbrev pub RefusedMakingKeepsBuffer : Type 0
+RefusedMakingKeepsBuffer =
+    (m entry exit : List ℕ) (a : Making) (r : Refused) → Makes m entry a exit → toldMaking a ≡ declined r → exit ≡ entry
 
 -- ---- demand 3 for golden files: a change inside four neighbouring bytes of one record's message, before its integrity field or being it
 
