@@ -36,7 +36,7 @@ pub fn hex_bytes(bytes: &[u8]) {
     }
 }
 
-fn hex_byte(byte: u8) {
+pub fn hex_byte(byte: u8) {
     io::print_hex(STDOUT_FILENO, byte as u64, 2);
 }
 

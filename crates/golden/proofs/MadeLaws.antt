@@ -2,11 +2,10 @@
 -- And 25 never carries 1, since a stored length below 21 is refused first.
 use mathlib.Core.Bool.{Bool, true, false, cond, not}
 use mathlib.Core.List.{List, [], _++_}
-use mathlib.Core.Path.{_≡_, refl, ap, _∙_, subst}
+use mathlib.Core.Path.{_≡_, refl, ap, _∙_}
 use Prim.Native.Nat.{ℕ, zero, suc, _+_, _-_, _*_, _/_, _%_, _≤_, _<_}
 use native.Mathlib.Omega.{arith}
 use borrow.Author.Tests.{eq-eqb, le-ltb, lt-leb}
-use lib.Dec.{T, T-not, eqb, eqb-refl}
 use lib.ListN.{length, take, drop, getD, replicate}
 use lib.Seq.{take-all, take-append-seam, drop-append-seam, drop-append-add}
 use Rattle.envelope.proofs.ReadingLaws.{accepted-least, long-not-1}

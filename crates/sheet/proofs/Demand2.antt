@@ -1,11 +1,15 @@
 -- Demand 2: exactly the well-formed messages and exactly their fields; written then read, and read then written.
--- That `read` accepts just what the definition accepts is its promise; these are the round trips over it.
+-- That `read` accepts just what the definition accepts is its promise; these are the round trips over it, and what golden files keep.
 use Rattle.sum.specs.Vectors.{Vectors}
 use Rattle.sum.proofs.Computed.{vectors}
 use Rattle.envelope.specs.Qos.{JoinsWhatWasSplit, SplitsWhatWasJoined}
 use Rattle.envelope.specs.RoundTrips.{WrittenThenRead, WrittenBufferThenRead, ReadThenWritten, SameFieldsSameBytes}
 use Rattle.envelope.proofs.QosLaws.{joins-what-was-split, splits-what-was-joined}
 use Rattle.envelope.proofs.RoundTripLaws as trips
+use Rattle.golden.specs.Theorems.{FileWalksInOrder, OtherFileStays, CheckedAreGood, FindsTheFirst, MadeIsGood, NeverTooShort}
+use Rattle.golden.proofs.CheckedLaws as checked
+use Rattle.golden.proofs.MadeLaws as made
+use Rattle.golden.proofs.WalkLaws as walk
 
 -- the sums of the documents: no bytes, the digits 1 to 9 (case n), and the digits with their complemented sum
 pub the-documents-vectors : Vectors
@@ -29,3 +33,23 @@ qos-joins-what-was-split = joins-what-was-split
 
 pub qos-splits-what-was-joined : SplitsWhatWasJoined
 qos-splits-what-was-joined = splits-what-was-joined
+
+-- ---- golden files
+
+pub file-walks-in-order : FileWalksInOrder
+file-walks-in-order = walk.walks-in-order
+
+pub other-file-stays : OtherFileStays
+other-file-stays = walk.other-file-stays
+
+pub checked-are-good : CheckedAreGood
+checked-are-good = checked.checked-are-good
+
+pub finds-the-first : FindsTheFirst
+finds-the-first = checked.finds-the-first
+
+pub made-is-good : MadeIsGood
+made-is-good = made.made-is-good
+
+pub never-too-short : NeverTooShort
+never-too-short = made.never-too-short

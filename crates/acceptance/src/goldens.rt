@@ -1,0 +1,469 @@
+// Golden files made here: check, find, step, compare and make, their refusals, and what lent storage holds after.
+// The messages and the lines expected were made by a program of another language, with zlib for the sums.
+use crate::printing::end_line;
+use crate::printing::hex_byte;
+use crate::printing::hex_bytes;
+use crate::printing::number;
+use crate::printing::refused;
+use crate::printing::text;
+use golden::Checking;
+use golden::Comparison;
+use golden::Counting;
+use golden::Entry;
+use golden::Finding;
+use golden::Making;
+use golden::Name;
+use golden::Reached;
+use golden::Record;
+use golden::RecordFault;
+use golden::check;
+use golden::compare;
+use golden::count;
+use golden::entry_at;
+use golden::find;
+use golden::make;
+use golden::step;
+
+// What lent storage holds before anything is put into it.
+const BLANK: u8 = 0xEE;
+
+const BLANK_PLACE: u32 = 99;
+
+// A byte less than a record, which is no file.
+const SHORT: usize = Record::SIZE - 1;
+
+// The bytes of a buffer that are shown.
+const FRONT: usize = 24;
+
+// A record more than a file may have.
+const OVER: usize = Record::FILE + Record::SIZE;
+
+pub fn checks() {
+    checked(b"no bytes", b"");
+    let short = [0u8; SHORT];
+    checked(b"511 bytes", &short);
+    let over = [0u8; OVER];
+    checked(b"129 records", &over);
+    let mut file = [0u8; 2 * Record::SIZE];
+    lay_two(&mut file);
+    checked(b"two good records", &file);
+    store(&mut file, 1023, 1);
+    checked(b"a byte after the message of record 1", &file);
+    store(&mut file, 514, 3);
+    checked(b"its header version 3 as well", &file);
+    store(&mut file, 1023, 0);
+    checked(b"its header version 3 alone", &file);
+    store(&mut file, 1, 20);
+    checked(b"a length of 20 in record 0", &file);
+}
+
+pub fn finds() {
+    let first = name(6000, 1);
+    let second = name(6001, 2);
+    let mut file = [0u8; 3 * Record::SIZE];
+    lay_two(&mut file);
+    put(
+        &mut file,
+        2,
+        b"\x04\x17\x70\x01\x00\x00\x00\x00\x00\x00\x00\x01\x00\x00\x00\x00\x00\x00\x00\x00\x00",
+    );
+    found(b"record 1", &file, second);
+    found(b"the first of two alike", &file, first);
+    found(b"another number", &file, name(6000, 2));
+    found(b"another type", &file, name(6001, 1));
+    store(&mut file, 1026, 3);
+    found(b"record 1 before a bad record", &file, second);
+    found(b"nothing before a bad record", &file, name(6000, 2));
+    store(&mut file, 2, 3);
+    found(b"a bad record first", &file, second);
+    found(b"in no bytes", b"", first);
+    let short = [0u8; SHORT];
+    found(b"in 511 bytes", &short, first);
+}
+
+pub fn steps() {
+    let mut file = [0u8; 2 * Record::SIZE];
+    lay_two(&mut file);
+    stepped(b"two good records", &file, 0);
+    stepped(b"two good records", &file, 1);
+    stepped(b"two good records", &file, 2);
+    stepped(b"two good records", &file, 18_446_744_073_709_551_615);
+    store(&mut file, 2, 3);
+    stepped(b"a bad record first", &file, 0);
+    stepped(b"a bad record first", &file, 1);
+    stepped(b"no bytes", b"", 0);
+    let short = [0u8; SHORT];
+    stepped(b"511 bytes", &short, 0);
+    stepped(b"511 bytes", &short, 7);
+}
+
+pub fn comparisons() {
+    let mut file = [0u8; 2 * Record::SIZE];
+    lay_two(&mut file);
+    let mut wide = [BLANK_PLACE; 8];
+    compared(
+        b"record 0 with itself",
+        &file,
+        0,
+        b"\x04\x17\x70\x01\x00\x00\x00\x00\x00\x00\x00\x01\x00\x00\x00\x00\x00\x00\x00\x00\x00",
+        &mut wide,
+    );
+    differing(b"room for more", &file, &mut wide);
+    let mut exact = [BLANK_PLACE; 6];
+    differing(b"room for all", &file, &mut exact);
+    let mut tight = [BLANK_PLACE; 6];
+    differing_in_front(b"room for four", &file, &mut tight, 4);
+    let mut none = [BLANK_PLACE; 0];
+    differing(b"no room", &file, &mut none);
+    let mut few = [BLANK_PLACE; 4];
+    compared(
+        b"a radio's message a byte longer",
+        &file,
+        0,
+        b"\x04\x17\x70\x01\x00\x00\x00\x01\x00\x00\x00\x01\x00\x00\x00\x00\x00\x41\x00\x00\x00\x00",
+        &mut few,
+    );
+}
+
+pub fn comparisons_refused() {
+    let mut file = [0u8; 2 * Record::SIZE];
+    lay_two(&mut file);
+    let mut places = [BLANK_PLACE; 2];
+    compared(
+        b"22, record 2 of two",
+        &file,
+        2,
+        b"\x04\x17\x70\x01\x00\x00\x00\x00\x00\x00\x00\x01\x00\x00\x00\x00\x00\x00\x00\x00\x00",
+        &mut places,
+    );
+    compared(b"31, no bytes", &file, 0, b"", &mut places);
+    compared(
+        b"31, a field of 1",
+        &file,
+        0,
+        b"\x04\x17\x70\x01\x00\x00\x00\x00\x00\x00\x00\x01\x00\x00\x00\x00\x00\x00\x00\x00\x01",
+        &mut places,
+    );
+    compared(b"22 before 31", &file, 2, b"", &mut places);
+    store(&mut file, 2, 3);
+    compared(b"25 before 31", &file, 0, b"", &mut places);
+    let short = [0u8; SHORT];
+    compared(b"21 before 22 and 31", &short, 1, b"", &mut places);
+}
+
+pub fn makes() {
+    let mut buffer = [BLANK; Record::SIZE];
+    let mut narrow = [BLANK; SHORT];
+    let mut wide = [BLANK; Record::SIZE + 1];
+    let long = [0u8; Record::MESSAGE + 1];
+    made(b"33, 511 bytes", &long, &mut buffer);
+    made(b"34, no bytes", b"", &mut buffer);
+    made(
+        b"34, a field of 1",
+        b"\x04\x17\x70\x01\x00\x00\x00\x00\x00\x00\x00\x01\x00\x00\x00\x00\x00\x00\x00\x00\x01",
+        &mut buffer,
+    );
+    made(b"34 before 35", b"", &mut narrow);
+    made(
+        b"35, a buffer of 511",
+        b"\x04\x17\x70\x01\x00\x00\x00\x00\x00\x00\x00\x01\x00\x00\x00\x00\x00\x00\x00\x00\x00",
+        &mut narrow,
+    );
+    made(
+        b"35, a buffer of 513",
+        b"\x04\x17\x70\x01\x00\x00\x00\x00\x00\x00\x00\x01\x00\x00\x00\x00\x00\x00\x00\x00\x00",
+        &mut wide,
+    );
+    made(
+        b"M",
+        b"\x04\x17\x70\x01\x00\x00\x00\x00\x00\x00\x00\x01\x00\x00\x00\x00\x00\x00\x00\x00\x00",
+        &mut buffer,
+    );
+    checked(b"the record of M", &buffer);
+}
+
+// Case o: M, and M with a stored length of 20.
+pub fn listings() {
+    let mut file = [0u8; 2 * Record::SIZE];
+    put(
+        &mut file,
+        0,
+        b"\x04\x17\x70\x01\x00\x00\x00\x00\x00\x00\x00\x01\x00\x00\x00\x00\x00\x00\x00\x00\x00",
+    );
+    put(
+        &mut file,
+        1,
+        b"\x04\x17\x70\x01\x00\x00\x00\x00\x00\x00\x00\x01\x00\x00\x00\x00\x00\x00\x00\x00\x00",
+    );
+    store(&mut file, 513, 20);
+    counted(b"case o", &file);
+    entered(b"case o", &file, 0);
+    entered(b"case o", &file, 1);
+    entered(b"case o", &file, 2);
+    let short = [0u8; SHORT];
+    counted(b"511 bytes", &short);
+    entered(b"511 bytes", &short, 9);
+}
+
+// Record 0 is M, of type 6000 and number 1; record 1 has addresses and a CRC, type 6001 and number 2.
+fn lay_two(file: &mut [u8]) {
+    put(
+        file,
+        0,
+        b"\x04\x17\x70\x01\x00\x00\x00\x00\x00\x00\x00\x01\x00\x00\x00\x00\x00\x00\x00\x00\x00",
+    );
+    put(
+        file,
+        1,
+        b"\x04\x17\x71\x01\x09\x00\x00\x0c\x00\x00\x00\x02\x65\x53\xf1\x00\x1b\x01\x2c\x00\x08\x75\x70\x2e\x6c\x2e\x35\x35\x36\x30\x3a\x72\x00\x63\x73\x78\x2e\x62\x3a\x63\x62\x74\x6d\x00\x68\x65\x6c\x6c\x6f\x2c\x20\x72\x61\x64\x69\x6f\xec\x5f\x35\x94",
+    );
+}
+
+// Makes record n of the file.
+pub fn put(file: &mut [u8], n: usize, message: &[u8]) {
+    if n < file.len() / Record::SIZE {
+        let start = n * Record::SIZE;
+        let end = start + Record::SIZE;
+        make(message, &mut file[start..end]);
+    }
+}
+
+// Breaks the file, or mends it.
+fn store(file: &mut [u8], place: usize, byte: u8) {
+    if place < file.len() {
+        file[place] = byte;
+    }
+}
+
+fn name(message_type: u16, number: u32) -> Name {
+    Name {
+        message_type,
+        number,
+    }
+}
+
+pub fn checked(name: &[u8], file: &[u8]) {
+    text(b"check ");
+    text(name);
+    match check(file) {
+        Checking::Count(records) => {
+            text(b": records");
+            number(records as u64);
+        }
+        Checking::NotAFile => text(b": record 0 refused 21 0"),
+        Checking::Bad { record, fault } => {
+            text(b": record");
+            number(record as u64);
+            bad(fault);
+        }
+    }
+    end_line();
+}
+
+fn found(words: &[u8], file: &[u8], name: Name) {
+    text(b"find ");
+    text(words);
+    text(b":");
+    match find(file, name) {
+        Finding::Found { record, opened } => {
+            text(b" record");
+            number(record as u64);
+            opened_records(opened);
+        }
+        Finding::Missing { opened } => {
+            text(b" refused 27 0");
+            opened_records(opened);
+        }
+        Finding::NotAFile => {
+            text(b" refused 21 0");
+            opened_records(0);
+        }
+        Finding::Bad { fault, opened } => {
+            bad(fault);
+            opened_records(opened);
+        }
+    }
+    end_line();
+}
+
+fn opened_records(opened: usize) {
+    text(b" opened");
+    number(opened as u64);
+}
+
+// What the step answers, a message as its first place and its length, and the next record.
+fn stepped(name: &[u8], file: &[u8], n: usize) {
+    text(b"step ");
+    text(name);
+    text(b", at");
+    number(n as u64);
+    text(b":");
+    let stepping = step(file, n);
+    let answer = stepping.answer;
+    match answer {
+        Reached::Message(part) => {
+            text(b" message");
+            number(part.place as u64);
+            number(part.size as u64);
+        }
+        Reached::Bad(fault) => bad(fault),
+        Reached::NotAFile => text(b" refused 21 0"),
+        Reached::End => text(b" end"),
+    }
+    text(b" next");
+    number(stepping.next as u64);
+    end_line();
+}
+
+// Record 1 beside a message of another number and body, which differs in six places with its sum.
+fn counted(name: &[u8], file: &[u8]) {
+    text(b"count ");
+    text(name);
+    match count(file) {
+        Counting::Count(records) => {
+            text(b": records");
+            number(records as u64);
+        }
+        Counting::NotAFile => text(b": refused 21 0"),
+    }
+    end_line();
+}
+
+fn entered(name: &[u8], file: &[u8], n: usize) {
+    text(b"entry ");
+    text(name);
+    text(b", at");
+    number(n as u64);
+    text(b":");
+    match entry_at(file, n) {
+        Entry::Good {
+            message_type,
+            number: message_number,
+            size,
+        } => good(message_type, message_number, size),
+        Entry::Bad(fault) => bad(fault),
+        Entry::NoRecord => text(b" refused 22 0"),
+        Entry::NotAFile => text(b" refused 21 0"),
+    }
+    end_line();
+}
+
+fn good(message_type: u16, message_number: u32, size: usize) {
+    number(message_type as u64);
+    number(message_number as u64);
+    number(size as u64);
+}
+
+fn differing(name: &[u8], file: &[u8], places: &mut [u32]) {
+    compared(
+        name,
+        file,
+        1,
+        b"\x04\x17\x71\x01\x09\x00\x00\x0c\x00\x00\x01\x02\x65\x53\xf1\x00\x1b\x01\x2c\x00\x08\x75\x70\x2e\x6c\x2e\x35\x35\x36\x30\x3a\x72\x00\x63\x73\x78\x2e\x62\x3a\x63\x62\x74\x6d\x00\x68\x67\x6c\x6c\x6f\x2c\x20\x72\x61\x64\x69\x6f\xcb\xfa\x17\xc6",
+        places,
+    );
+}
+
+// Lends the front of the places, and shows them all afterwards.
+fn differing_in_front(name: &[u8], file: &[u8], places: &mut [u32], room: usize) {
+    if room <= places.len() {
+        differing(name, file, &mut places[..room]);
+        list(b"the list it is the front of:", places);
+    }
+}
+
+// The answer, and the lent list after it.
+fn compared(name: &[u8], file: &[u8], n: usize, radio: &[u8], places: &mut [u32]) {
+    let answer = compare(file, n, radio, places);
+    text(b"compare ");
+    text(name);
+    text(b":");
+    match answer {
+        Comparison::Same => text(b" same"),
+        Comparison::Different(total) => {
+            text(b" different");
+            number(total as u64);
+        }
+        Comparison::NotAFile => text(b" refused 21 0"),
+        Comparison::NoRecord => text(b" refused 22 0"),
+        Comparison::Bad(fault) => bad(fault),
+        Comparison::RadioUnread(refusal) => refused(b" refused 31", refusal),
+        Comparison::Beginning => text(b" refused 32 0"),
+    }
+    list(b"", places);
+}
+
+fn list(words: &[u8], places: &[u32]) {
+    text(words);
+    text(b" list");
+    numbers(places);
+    end_line();
+}
+
+fn numbers(list: &[u32]) {
+    let mut i = 0;
+    while i < list.len() {
+        place(list[i]);
+        i += 1;
+    }
+}
+
+fn place(n: u32) {
+    number(n as u64);
+}
+
+fn made(name: &[u8], message: &[u8], buffer: &mut [u8]) {
+    let answer = make(message, buffer);
+    text(b"make ");
+    text(name);
+    match answer {
+        Making::Made => text(b": made"),
+        Making::TooLong => text(b": refused 33 0"),
+        Making::Unread(refusal) => refused(b": refused 34", refusal),
+        Making::WrongBuffer => text(b": refused 35 0"),
+    }
+    shown(buffer);
+    end_line();
+}
+
+// The first bytes, and what the rest holds.
+fn shown(buffer: &[u8]) {
+    if FRONT < buffer.len() {
+        front(&buffer[..FRONT]);
+        rest(&buffer[FRONT..], buffer[FRONT]);
+    }
+}
+
+fn front(bytes: &[u8]) {
+    text(b" [");
+    hex_bytes(bytes);
+    text(b"]");
+}
+
+// Whether the bytes are all this one.
+fn rest(bytes: &[u8], byte: u8) {
+    if alike(bytes, byte) {
+        text(b" and all after ");
+        hex_byte(byte);
+        return;
+    }
+    text(b" and others");
+}
+
+fn alike(bytes: &[u8], byte: u8) -> bool {
+    let mut i = 0;
+    while i < bytes.len() {
+        if bytes[i] != byte {
+            return false;
+        }
+        i += 1;
+    }
+    true
+}
+
+fn bad(fault: RecordFault) {
+    let numbers = fault.numbers();
+    text(b" refused");
+    number(numbers.number as u64);
+    number(numbers.reading as u64);
+}

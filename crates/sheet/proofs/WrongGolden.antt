@@ -1,0 +1,134 @@
+-- For each promise about golden files two answers that a careless program would give, each refuted by computing.
+-- `M` is a message of document 01, and `recordOf M` a file of its one record.
+use mathlib.Core.List.{List, [], _∷_}
+use mathlib.Core.Path.{_≡_, refl, ap, _∙_}
+use Prim.Native.Nat.{ℕ}
+use denote.Ref.{RefT, now}
+use native.Mathlib.Omega.{arith}
+use lib.ListN.{getD, replicate}
+use Rattle.envelope.specs.Fields.{absent}
+use Rattle.envelope.specs.declared.reader.Fault.the-variants.{TooShort}
+use Rattle.golden.specs.Checking.{counted, checking, Checks}
+use Rattle.golden.specs.Comparing.{same, different, listAfter, comparing, Compares}
+use Rattle.golden.specs.File.{badFile}
+use Rattle.golden.specs.Finding.{findFrom, finding, Finds}
+use Rattle.golden.specs.Listing.{counting, entryAt, Counts, Enters}
+use Rattle.golden.specs.Making.{making, recordOf, bufferAfter, MakeAnswer, made, declined, Makes}
+use Rattle.golden.specs.Refusal.{Refused, plainly, NumbersRecordFault}
+use Rattle.golden.specs.Stepping.{stepAt, nextAfter, Steps}
+use Rattle.golden.specs.Theorems.{MadeGood}
+use Rattle.golden.specs.Walking.{Begins, Walks}
+use Rattle.golden.specs.declared.checker.Checking.the-variants as checking
+use Rattle.golden.specs.declared.comparer.Comparison.the-variants as comparison
+use Rattle.golden.specs.declared.finder.Finding.the-variants as finding
+use Rattle.golden.specs.declared.finder.Name.{Name}
+use Rattle.golden.specs.declared.lister.Counting.the-variants as counting
+use Rattle.golden.specs.declared.lister.Entry.the-variants as entry
+use Rattle.golden.specs.declared.maker.Making.the-variants as making
+use Rattle.golden.specs.declared.record.RecordFault.the-variants.{BadLength, Unread}
+use Rattle.golden.specs.declared.stepper.Reached.{Reached}
+use Rattle.golden.specs.declared.stepper.Reached.the-variants.{End, NotAFile}
+use Rattle.golden.proofs.MadeLaws.{made-is-good}
+use Rattle.sheet.specs.Cases.{M, likeM}
+use Rattle.sheet.proofs.Apart.{apart}
+use Rattle.sheet.proofs.Cases.{starred}
+
+good-M : MadeGood M (likeM absent 17 0)
+good-M = made-is-good M (likeM absent 17 0) (omega arith) (starred .a .0)
+
+-- ---- check: one byte told as no records; a good file told as none
+
+pub check-refuses-one-byte : Checks (7 ∷ []) (checking.Count 0) → ⊥
+unfolding checking badFile
+check-refuses-one-byte kept = let z : _≡_ {A = ℕ} 0 1 = cc in omega arith
+
+pub check-counts-its-records : Checks (recordOf M) (checking.Count 0) → ⊥
+check-counts-its-records kept = let z : counted 0 ≡ counted 1 = kept ∙ good-M .checks in let y : _≡_ {A = ℕ} 0 1 = cc in omega arith
+
+-- ---- find: a record invented; an opened record invented
+
+pub find-invents-no-record : (name : Name) → Finds [] name (finding.Found 0 1) → ⊥
+unfolding finding findFrom badFile
+find-invents-no-record name kept = let z : _≡_ {A = ℕ} 0 1 = cc in omega arith
+
+pub find-invents-no-opened-record : (name : Name) → Finds [] name (finding.Missing 1) → ⊥
+unfolding finding findFrom badFile
+find-invents-no-opened-record name kept = let z : _≡_ {A = ℕ} 1 0 = cc in omega arith
+
+-- ---- step and walk: on past the end; the end of what is no file; a walk that begins later
+
+pub step-stays-at-the-end : Steps [] 0 (record { answer = End; next = 1 }) → ⊥
+unfolding nextAfter badFile
+step-stays-at-the-end kept = apart 1 0 tt (kept .1)
+
+pub step-refuses-one-byte : Steps (7 ∷ []) 0 (record { answer = End; next = 0 }) → ⊥
+unfolding stepAt badFile
+step-refuses-one-byte kept = let z : _≡_ {A = ℕ} 0 1 = cc in omega arith
+
+pub walk-begins-at-the-first : (file : RefT (List ℕ)) → Begins file (record { file = file; next = 1 }) → ⊥
+walk-begins-at-the-first file kept = apart 1 0 tt (kept .1)
+
+one-on : nextAfter (recordOf M) 0 ≡ 1
+unfolding nextAfter badFile recordOf
+one-on = refl
+
+pub walk-moves-on : (file : RefT (List ℕ)) (r : Reached) → now file ≡ recordOf M → Walks (record { file = file; next = 0 }) r (record { file = file; next = 0 }) → ⊥
+walk-moves-on file r e kept = apart 0 1 tt (kept .1 .1 ∙ ap (λ (f : List ℕ). nextAfter f 0) e ∙ one-on)
+
+-- ---- count and entry: one byte told as no records; a file told as none; 22 before 21; a line invented
+
+pub count-refuses-one-byte : Counts (7 ∷ []) (counting.Count 0) → ⊥
+unfolding counting badFile
+count-refuses-one-byte kept = let z : _≡_ {A = ℕ} 0 1 = cc in omega arith
+
+pub count-takes-the-empty-file : Counts [] counting.NotAFile → ⊥
+unfolding counting badFile
+count-takes-the-empty-file kept = let z : _≡_ {A = ℕ} 0 1 = cc in omega arith
+
+pub entry-refuses-the-file-first : Enters (7 ∷ []) 9 entry.NoRecord → ⊥
+unfolding entryAt badFile
+entry-refuses-the-file-first kept =
+    let same : _≡_ {A = Refused} (plainly 22) (plainly 21) = cc in
+    apart 22 21 tt (ap (λ (r : Refused). r .number) same)
+
+pub entry-invents-no-line : Enters [] 0 (entry.Good 0 0 0) → ⊥
+unfolding entryAt badFile
+entry-invents-no-line kept = let z : _≡_ {A = ℕ} 0 1 = cc in omega arith
+
+-- ---- compare: a difference invented; a list entry written on a refusal
+
+pub compare-invents-no-difference : (entry exit : List ℕ) → Compares (recordOf M) 0 M entry (comparison.Different 1) exit → ⊥
+compare-invents-no-difference entry exit kept =
+    let z : different 1 ≡ same = kept .0 ∙ good-M .compares in
+    let y : _≡_ {A = ℕ} 0 1 = cc in
+    omega arith
+
+pub compare-lists-nothing-on-a-refusal : Compares [] 0 M (9 ∷ []) comparison.NoRecord (0 ∷ []) → ⊥
+unfolding comparing listAfter badFile
+compare-lists-nothing-on-a-refusal kept = apart 0 9 tt (ap (λ (s : List ℕ). getD s 0 0) (kept .1))
+
+-- ---- make: into any buffer; nothing touched
+
+pub make-refuses-a-short-buffer : (exit : List ℕ) → Makes M (replicate 511 0) making.Made exit → ⊥
+unfolding making
+make-refuses-a-short-buffer exit kept = told (rw (starred .a .0) at (kept .0))
+  where
+    told : made ≡ declined (plainly 35) → ⊥
+    told e = let z : _≡_ {A = ℕ} 0 1 = cc in omega arith
+
+makes-M : making M 512 ≡ made
+unfolding making
+makes-M = rw (starred .a .0) refl
+
+pub make-does-not-touch-nothing : Makes M (replicate 512 0) making.Made (replicate 512 0) → ⊥
+unfolding recordOf
+make-does-not-touch-nothing kept =
+    apart 0 21 tt (ap (λ (s : List ℕ). getD s 1 0) (kept .1 ∙ ap (λ (a : MakeAnswer). bufferAfter a M (replicate 512 0)) makes-M))
+
+-- ---- the numbers of a record's fault: another rule's; reading's own left out
+
+pub a-record-fault-keeps-its-number : NumbersRecordFault BadLength (record { number = 24; reading = 0 }) → ⊥
+a-record-fault-keeps-its-number kept = apart 24 23 tt (ap (λ (r : Refused). r .number) kept)
+
+pub a-record-fault-passes-reading-on : NumbersRecordFault (Unread (record { fault = TooShort })) (record { number = 25; reading = 0 }) → ⊥
+a-record-fault-passes-reading-on kept = apart 0 1 tt (ap (λ (r : Refused). r .reading) kept)
