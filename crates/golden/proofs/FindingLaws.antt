@@ -1,4 +1,5 @@
 -- Check and find, one record on as their loops meet them, and the step of the walk: which case holds, from the tests of the code.
+-- `n` is the record at hand, and `count - n` are left with it.
 use mathlib.Core.Bool.{Bool, true, false, cond}
 use mathlib.Core.List.{List}
 use mathlib.Core.Path.{_≡_, ap, sym, _∙_}

@@ -1,4 +1,5 @@
 -- The record of a message as the two copies leave it, and the cases of making one.
+-- `m` is the message, and `recordOf m` its record.
 use mathlib.Core.List.{List, [], _∷_, _++_, append-nil}
 use mathlib.Core.Path.{_≡_, ap, sym, _∙_}
 use Prim.Native.Nat.{ℕ, zero, suc, _+_, _-_, _/_, _%_, _≤_, _<_}

@@ -1,4 +1,5 @@
 -- Which case of `opening` holds, from the tests of `open` in their order; and a record of the file from its part.
+-- The definitions are in specs/Helpers.
 use mathlib.Core.Bool.{Bool, true, false, not}
 use mathlib.Core.List.{List}
 use mathlib.Core.Path.{_≡_, ap, _∙_}

@@ -1,4 +1,5 @@
 -- The walk from a fresh start: record after record, then the end for ever; and at 21 it stays.
+-- By induction on the steps taken.
 use mathlib.Core.Bool.{true, false}
 use mathlib.Core.List.{List}
 use mathlib.Core.Logic.{_⊎_, inl, inr, ⊎-elim}

@@ -1,5 +1,5 @@
--- Meanings of the private helpers' answers, and of a fault's numbers.
--- `Opened` beside `Judged` of specs/Record: the stored length of a good record goes with its fields.
+-- Meanings of the private helpers' answers. No promise to a user names them.
+-- Beside `Judged` of specs/Record an opened record has its stored length with its fields.
 use Prim.Native.Nat.{ℕ}
 use mathlib.Core.List.{List}
 use Rattle.envelope.specs.Fields.{Fields}

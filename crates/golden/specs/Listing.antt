@@ -1,4 +1,5 @@
 -- What a listing needs: the count of a file, and of each record the type, number and length of its message, or its refusal.
+-- 21 comes first, then 22.
 use Prim.Native.Nat.{ℕ}
 use mathlib.Core.Bool.{cond}
 use mathlib.Core.List.{List}
@@ -46,6 +47,6 @@ toldEntry (entries.Bad fault) = refusedLine (toldRecordFault fault)
 toldEntry entries.NoRecord = refusedLine (plainly 22)
 toldEntry entries.NotAFile = refusedLine (plainly 21)
 
--- what `entry` promises
+-- what `entry_at` promises
 abbrev pub Enters : List ℕ → ℕ → Entry → Type 0
 Enters f n r = toldEntry r ≡ entryAt f n

@@ -1,4 +1,4 @@
--- What users of a golden file rely on. Each statement is a type here; the proofs stand in proofs/ (WalkLaws, CheckedLaws, MadeLaws, KeptLaws, DemandLaws).
+-- What users of a golden file rely on. Each statement is a type here; the proofs stand in proofs/ (WalkLaws, CheckedLaws, MadeLaws, BeginningLaws, KeptLaws, DemandLaws).
 -- `f` and `g` are files, `n` counts records.
 use Prim.Native.Nat.{ℕ, zero, suc, _+_, _*_, _≤_, _<_}
 use mathlib.Core.Bool.{true, false}
@@ -10,7 +10,7 @@ use Rattle.envelope.specs.Fields.{Fields, accepted}
 use Rattle.envelope.specs.Promise.{Bytes}
 use Rattle.envelope.specs.Reading.{reading}
 use Rattle.golden.specs.Checking.{counted, checking}
-use Rattle.golden.specs.Comparing.{comparing, same, unlike, answerOf, toldComparison, Compares}
+use Rattle.golden.specs.Comparing.{properBeginning, comparing, same, unlike, answerOf, toldComparison, Compares}
 use Rattle.golden.specs.File.{badFile, countOf, recordAt, judgedAt}
 use Rattle.golden.specs.Finding.{NameFields, hasName, FindAnswer, found, finding}
 use Rattle.golden.specs.Finding as find
@@ -89,6 +89,11 @@ MadeIsGood = (m : List ℕ) (fields : Fields) → length m ≤ longestMessage �
 
 abbrev pub NeverTooShort : Type 0
 NeverTooShort = (f : List ℕ) (n : ℕ) → n < countOf f → judgedAt f n ≡ bad (passingOn 25 1) → ⊥
+
+-- ---- 32 never comes about: of two accepted messages neither is a proper beginning of the other
+
+abbrev pub NeverABeginning : Type 0
+NeverABeginning = (g r : List ℕ) (fg fr : Fields) → reading g ≡ accepted fg → reading r ≡ accepted fr → properBeginning g r ≡ false
 
 -- ---- a refusal leaves what was lent as it was
 

@@ -6,7 +6,8 @@ use Rattle.envelope.specs.Qos.{JoinsWhatWasSplit, SplitsWhatWasJoined}
 use Rattle.envelope.specs.RoundTrips.{WrittenThenRead, WrittenBufferThenRead, ReadThenWritten, SameFieldsSameBytes}
 use Rattle.envelope.proofs.QosLaws.{joins-what-was-split, splits-what-was-joined}
 use Rattle.envelope.proofs.RoundTripLaws as trips
-use Rattle.golden.specs.Theorems.{FileWalksInOrder, OtherFileStays, CheckedAreGood, FindsTheFirst, MadeIsGood, NeverTooShort}
+use Rattle.golden.specs.Theorems.{FileWalksInOrder, OtherFileStays, CheckedAreGood, FindsTheFirst, MadeIsGood, NeverTooShort, NeverABeginning}
+use Rattle.golden.proofs.BeginningLaws as beginning
 use Rattle.golden.proofs.CheckedLaws as checked
 use Rattle.golden.proofs.MadeLaws as made
 use Rattle.golden.proofs.WalkLaws as walk
@@ -53,3 +54,6 @@ made-is-good = made.made-is-good
 
 pub never-too-short : NeverTooShort
 never-too-short = made.never-too-short
+
+pub never-a-beginning : NeverABeginning
+never-a-beginning = beginning.never-a-beginning

@@ -1,11 +1,11 @@
 -- For each promise about golden files two answers that a careless program would give, each refuted by computing.
 -- `M` is a message of document 01, and `recordOf M` a file of its one record.
 use mathlib.Core.List.{List, [], _∷_}
-use mathlib.Core.Path.{_≡_, refl, ap, _∙_}
+use mathlib.Core.Path.{_≡_, refl, sym, ap, _∙_}
 use Prim.Native.Nat.{ℕ}
 use denote.Ref.{RefT, now}
 use native.Mathlib.Omega.{arith}
-use lib.ListN.{getD, replicate}
+use lib.ListN.{length, getD, replicate}
 use Rattle.envelope.specs.Fields.{absent}
 use Rattle.envelope.specs.declared.reader.Fault.the-variants.{TooShort}
 use Rattle.golden.specs.Checking.{counted, checking, Checks}
@@ -55,7 +55,7 @@ pub find-invents-no-opened-record : (name : Name) → Finds [] name (finding.Mis
 unfolding finding findFrom badFile
 find-invents-no-opened-record name kept = let z : _≡_ {A = ℕ} 1 0 = cc in omega arith
 
--- ---- step and walk: on past the end; the end of what is no file; a walk that begins later
+-- ---- step and walk: on past the end; the end of what is no file; a walk that begins later, or on another file; one that stays
 
 pub step-stays-at-the-end : Steps [] 0 (record { answer = End; next = 1 }) → ⊥
 unfolding nextAfter badFile
@@ -67,6 +67,16 @@ step-refuses-one-byte kept = let z : _≡_ {A = ℕ} 0 1 = cc in omega arith
 
 pub walk-begins-at-the-first : (file : RefT (List ℕ)) → Begins file (record { file = file; next = 1 }) → ⊥
 walk-begins-at-the-first file kept = apart 1 0 tt (kept .1)
+
+pub walk-begins-on-its-file : (file other : RefT (List ℕ)) → now file ≡ [] → now other ≡ 7 ∷ [] → Begins file (record { file = other; next = 0 }) → ⊥
+walk-begins-on-its-file file other e o kept = apart 1 0 tt (ap length (sym o ∙ ap now (kept .0) ∙ e))
+
+none-on : nextAfter [] 0 ≡ 0
+unfolding nextAfter badFile
+none-on = refl
+
+pub walk-stays-at-the-end : (file : RefT (List ℕ)) (r : Reached) → now file ≡ [] → Walks (record { file = file; next = 0 }) r (record { file = file; next = 1 }) → ⊥
+walk-stays-at-the-end file r e kept = apart 1 0 tt (kept .1 .1 ∙ ap (λ (f : List ℕ). nextAfter f 0) e ∙ none-on)
 
 one-on : nextAfter (recordOf M) 0 ≡ 1
 unfolding nextAfter badFile recordOf
