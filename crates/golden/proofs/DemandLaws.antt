@@ -2,7 +2,7 @@
 -- Their bytes are the file's bytes, so the files are the same.
 use mathlib.Core.List.{List}
 use mathlib.Core.Path.{_≡_, ap, ap₂, sym, _∙_}
-use Prim.Native.Nat.{ℕ, _+_, _-_, _*_, _≤_, _<_}
+use Prim.Native.Nat.{ℕ, _+_, _-_, _*_, _/_, _≤_, _<_}
 use native.Mathlib.Decide.{decLt}
 use native.Mathlib.Omega.{arith}
 use lib.ListN.{length, drop, List·getD-eq-default}
@@ -102,15 +102,16 @@ module _ (f g : List ℕ) (r k : ℕ) (lf : r < countOf f) (lg : r < countOf g) 
       by (no a) (yes b) = within (omega arith) b
 
 pub golden-demand-3 : GoldenDemand3
-golden-demand-3 f g n r k bf bg cf cg l ds dt w e same =
+golden-demand-3 f g n m r k bf bg cf cg l ds dt w e same =
     let af = checked-are-good f n cf in
-    let ag = checked-are-good g n cg in
+    let ag = checked-are-good g m cg in
+    let counts : countOf f ≡ countOf g = ap (λ (x : ℕ). x / recordSize) e in
     let lf : r < countOf f = omega (arith, af .count) in
-    let lg : r < countOf g = omega (arith, ag .count) in
+    let lg : r < countOf g = omega (arith, af .count) in
     let gf = af .records r l in
-    let gg = ag .records r l in
+    let gg = ag .records r (omega (arith, ag .count)) in
     let long = long-s f g r k lf lg gf gg same ∙ sym (long-t f g r k lf lg gf gg same) in
-    let m = demand-3 (messageOf (recordAt f r)) (messageOf (recordAt g r)) k (message-bytes f r bf) (message-bytes g r bg) long ds dt w
+    let messages = demand-3 (messageOf (recordAt f r)) (messageOf (recordAt g r)) k (message-bytes f r bf) (message-bytes g r bg) long ds dt w
     (same-messages f g r k lf lg gf gg same) in
     let h = inside k _ (accepted-least _ (ds .fields) (ds .accepts)) w in
-    ext-getD 0 f g e (λ i b. file-byte f g r k lf lg gf gg same m h i)
+    ext-getD 0 f g e (λ i b. file-byte f g r k lf lg gf gg same messages h i)

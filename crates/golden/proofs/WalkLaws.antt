@@ -5,14 +5,22 @@ use mathlib.Core.List.{List}
 use mathlib.Core.Logic.{_⊎_, inl, inr, ⊎-elim}
 use mathlib.Core.Path.{_≡_, refl, ap, _∙_}
 use Prim.Native.Nat.{ℕ, zero, suc, _≤_, _<_}
+use denote.Ref.{RefT, now}
 use native.Mathlib.Decide.{decLe}
 use native.Mathlib.Numerals.{add-one}
 use native.Mathlib.Omega.{arith}
 use borrow.Author.Tests.{le-leb, lt-leb}
-use Rattle.golden.specs.File.{badFile, countOf}
+use Rattle.golden.specs.File.{badFile, countOf, judgedAt}
 use Rattle.golden.specs.Refusal.{plainly}
-use Rattle.golden.specs.Stepping.{refused, end, stepAt, nextAfter}
-use Rattle.golden.specs.Theorems.{numberAfter, FileWalksInOrder, OtherFileStays}
+use Rattle.golden.specs.Stepping.{refused, end, stepOf, stepAt, nextAfter, toldReached}
+use Rattle.golden.specs.Theorems.{WalkOver, FileWalksInOrder, OtherFileStays}
+use Rattle.golden.specs.declared.stepper.Reached.{Reached}
+use Rattle.golden.specs.declared.walker.Walk.{Walk}
+
+-- the number that so many steps of a fresh walk lead to
+unfoldable numberAfter : List ℕ → ℕ → ℕ
+numberAfter f zero = 0
+numberAfter f (suc steps) = nextAfter f (numberAfter f steps)
 
 module _ (f : List ℕ) (h : badFile f ≡ false) where
   next-on : (n : ℕ) → n < countOf f → nextAfter f n ≡ suc n
@@ -22,6 +30,10 @@ module _ (f : List ℕ) (h : badFile f ≡ false) where
   next-stays : (n : ℕ) → countOf f ≤ n → nextAfter f n ≡ n
   unfolding nextAfter
   next-stays n l = rw (h, le-leb (countOf f) n l)
+
+  answers : (n : ℕ) → n < countOf f → stepAt f n ≡ stepOf f n (judgedAt f n)
+  unfolding stepAt
+  answers n l = rw (h, lt-leb (countOf f) n l)
 
   ends : (n : ℕ) → countOf f ≤ n → stepAt f n ≡ end
   unfolding stepAt
@@ -45,17 +57,33 @@ module _ (f : List ℕ) (h : badFile f ≡ false) where
   at-end : (k : ℕ) → countOf f ≤ k → countOf f ≤ numberAfter f k
   at-end k l = ⊎-elim (λ m. m) (λ e. rw e l) (past k)
 
-pub walks-in-order : FileWalksInOrder
-walks-in-order f h =
-    record {
-      in-order = λ k l. up-to f h k (omega arith);
-      then-the-end = λ k l. ends f h (numberAfter f k) (at-end f h k l);
-    }
-
--- at 21 the number stays 0
 stays : (f : List ℕ) → badFile f ≡ true → (k : ℕ) → stepAt f k ≡ refused (plainly 21)
 unfolding stepAt
 stays f h k = rw h
 
+-- ---- the walk itself: its file stays, and its number is that of so many steps
+
+module _ (file : RefT (List ℕ)) (walk : ℕ → Walk) (answer : ℕ → Reached) (w : WalkOver file walk answer) where
+  same-file : (k : ℕ) → walk k .file ≡ file
+  same-file zero = w .fresh .0
+  same-file (suc k) = w .steps k .1 .0 ∙ same-file k
+
+  number : (k : ℕ) → walk k .next ≡ numberAfter (now file) k
+  unfolding numberAfter
+  number zero = w .fresh .1
+  number (suc k) = w .steps k .1 .1 ∙ (λ i. nextAfter (now (same-file k i)) (number k i))
+
+  answered : (k : ℕ) → toldReached (answer k) ≡ stepAt (now file) (numberAfter (now file) k)
+  answered k = w .steps k .0 ∙ (λ i. stepAt (now (same-file k i)) (number k i))
+
+pub walks-in-order : FileWalksInOrder
+walks-in-order file walk answer w h =
+    let f = now file in
+    record {
+      records = λ k l.
+          answered file walk answer w k ∙ ap (stepAt f) (up-to f h k (omega arith)) ∙ answers f h k l;
+      then-the-end = λ k l. answered file walk answer w k ∙ ends f h (numberAfter f k) (at-end f h k l);
+    }
+
 pub other-file-stays : OtherFileStays
-other-file-stays f h k = stays f h (numberAfter f k)
+other-file-stays file walk answer w h k = answered file walk answer w k ∙ stays (now file) h (numberAfter (now file) k)

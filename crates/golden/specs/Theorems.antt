@@ -1,9 +1,10 @@
 -- What users of a golden file rely on. Each statement is a type here; the proofs stand in proofs/ (WalkLaws, CheckedLaws, MadeLaws, BeginningLaws, KeptLaws, DemandLaws).
 -- `f` and `g` are files, `n` counts records.
-use Prim.Native.Nat.{ℕ, zero, suc, _+_, _*_, _≤_, _<_}
+use Prim.Native.Nat.{ℕ, suc, _+_, _*_, _≤_, _<_}
 use mathlib.Core.Bool.{true, false}
 use mathlib.Core.List.{List}
 use mathlib.Core.Path.{_≡_}
+use denote.Ref.{RefT, now}
 use lib.ListN.{length}
 use Rattle.envelope.specs.Demand3.{DeclaresCrc, Window, SameOutside}
 use Rattle.envelope.specs.Fields.{Fields, accepted}
@@ -17,29 +18,36 @@ use Rattle.golden.specs.Finding as find
 use Rattle.golden.specs.Making.{recordOf, declined, toldMaking, Makes}
 use Rattle.golden.specs.Record.{recordSize, headSize, longestMessage, messageOf, good, bad}
 use Rattle.golden.specs.Refusal.{Refused, plainly, passingOn}
-use Rattle.golden.specs.Stepping.{end, stepAt, nextAfter}
+use Rattle.golden.specs.Stepping.{end, stepOf, toldReached}
 use Rattle.golden.specs.Stepping as step
+use Rattle.golden.specs.Walking.{Begins, Walks}
 use Rattle.golden.specs.declared.comparer.Comparison.{Comparison}
 use Rattle.golden.specs.declared.maker.Making.{Making}
+use Rattle.golden.specs.declared.stepper.Reached.{Reached}
+use Rattle.golden.specs.declared.walker.Walk.{Walk}
 
 -- ---- walk
 
--- the number that so many steps of a fresh walk lead to
-unfoldable pub numberAfter : List ℕ → ℕ → ℕ
-numberAfter f zero = 0
-numberAfter f (suc steps) = nextAfter f (numberAfter f steps)
+-- a fresh walk and its steps: `walk k` is the walk before step k, and `answer k` what that step answers
+pub record WalkOver (file : RefT (List ℕ)) (walk : ℕ → Walk) (answer : ℕ → Reached) : Type 0 where
+  pub fresh : Begins file (walk 0)
+  pub steps : (k : ℕ) → Walks (walk k) (answer k) (walk (suc k))
 
 -- steps 0 to count - 1 answer records 0 to count - 1 in order, and every later one the end
-pub record WalksInOrder (f : List ℕ) : Type 0 where
-  pub in-order : (k : ℕ) → k < countOf f → numberAfter f k ≡ k
-  pub then-the-end : (k : ℕ) → countOf f ≤ k → stepAt f (numberAfter f k) ≡ end
+pub record InOrder (f : List ℕ) (answer : ℕ → Reached) : Type 0 where
+  pub records : (k : ℕ) → k < countOf f → toldReached (answer k) ≡ stepOf f k (judgedAt f k)
+  pub then-the-end : (k : ℕ) → countOf f ≤ k → toldReached (answer k) ≡ end
 
 abbrev pub FileWalksInOrder : Type 0
-FileWalksInOrder = (f : List ℕ) → badFile f ≡ false → WalksInOrder f
+FileWalksInOrder =
+    (file : RefT (List ℕ)) (walk : ℕ → Walk) (answer : ℕ → Reached) → WalkOver file walk answer
+    → badFile (now file) ≡ false → InOrder (now file) answer
 
 -- on any other file every step answers 21
 abbrev pub OtherFileStays : Type 0
-OtherFileStays = (f : List ℕ) → badFile f ≡ true → (k : ℕ) → stepAt f (numberAfter f k) ≡ step.refused (plainly 21)
+OtherFileStays =
+    (file : RefT (List ℕ)) (walk : ℕ → Walk) (answer : ℕ → Reached) → WalkOver file walk answer
+    → badFile (now file) ≡ true → (k : ℕ) → toldReached (answer k) ≡ step.refused (plainly 21)
 
 -- ---- check and find
 
@@ -110,6 +118,6 @@ RefusedMakingKeepsBuffer =
 
 abbrev pub GoldenDemand3 : Type 0
 GoldenDemand3 =
-    (f g : List ℕ) (n r k : ℕ) → Bytes f → Bytes g → checking f ≡ counted n → checking g ≡ counted n → r < n
+    (f g : List ℕ) (n m r k : ℕ) → Bytes f → Bytes g → checking f ≡ counted n → checking g ≡ counted m → r < n
     → DeclaresCrc (messageOf (recordAt f r)) → DeclaresCrc (messageOf (recordAt g r)) → Window k (length (messageOf (recordAt f r)))
     → length f ≡ length g → SameOutside (r * recordSize + headSize + k) f g → f ≡ g
