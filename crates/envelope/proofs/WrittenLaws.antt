@@ -30,7 +30,7 @@ use Rattle.envelope.proofs.ZeroLaws.{zero-inside}
 
 -- ---- numbers come back from their bytes
 
-two-back : (n : ℕ) → n / 256 * 256 + n % 256 ≡ n
+pub two-back : (n : ℕ) → n / 256 * 256 + n % 256 ≡ n
 two-back n = omega arith
 
 three-back : (n : ℕ) → n / 65536 * 65536 + n / 256 % 256 * 256 + n % 256 ≡ n

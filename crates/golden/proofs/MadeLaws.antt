@@ -3,12 +3,13 @@
 use mathlib.Core.Bool.{Bool, true, false, cond, not}
 use mathlib.Core.List.{List, [], _++_}
 use mathlib.Core.Path.{_≡_, refl, ap, _∙_}
-use Prim.Native.Nat.{ℕ, zero, suc, _+_, _-_, _*_, _/_, _%_, _≤_, _<_}
+use Prim.Native.Nat.{ℕ, zero, suc, _+_, _-_, _/_, _≤_, _<_}
 use native.Mathlib.Omega.{arith}
 use borrow.Author.Tests.{eq-eqb, le-ltb, lt-leb}
 use lib.ListN.{length, take, drop, getD, replicate}
 use lib.Seq.{take-all, take-append-seam, drop-append-seam, drop-append-add}
 use Rattle.envelope.proofs.ReadingLaws.{accepted-least, long-not-1}
+use Rattle.envelope.proofs.WrittenLaws.{two-back}
 use Rattle.envelope.specs.Fields.{Fields, Answer, accepted, refusal}
 use Rattle.envelope.specs.Fields as envelope
 use Rattle.envelope.specs.Message.{inTwo}
@@ -31,9 +32,6 @@ use Rattle.golden.proofs.RecordLaws.{length-least, length-most, length-
 stored-back : (m : List ℕ) → storedLength (recordOf m) ≡ length m
 unfolding storedLength storedWord twoAt recordOf
 stored-back m = two-back (length m)
-  where
-    two-back : (n : ℕ) → n / 256 * 256 + n % 256 ≡ n
-    two-back n = omega arith
 
 message-back : (m : List ℕ) → messageOf (recordOf m) ≡ m
 unfolding recordOf

@@ -2,10 +2,10 @@
 -- They show that no promise is met by whatever comes.
 use mathlib.Core.List.{List, [], _∷_, _++_}
 use mathlib.Core.Path.{_≡_, refl, sym, ap, _∙_}
-use Prim.Native.Nat.{ℕ, zero, suc}
+use Prim.Native.Nat.{ℕ}
 use native.Mathlib.Omega.{arith}
 use lib.IntN.{ℤ, pos, negsuc}
-use lib.ListN.{length, take, set, getD}
+use lib.ListN.{length, take, set, getD, replicate}
 use Rattle.sum.specs.Crc.{crc32}
 use Rattle.sum.specs.Promise.{Sums}
 use Rattle.sum.specs.Vectors.{digits}
@@ -66,29 +66,25 @@ read-gives-the-first-rule kept = apart 2 1 tt (refusal-number 2 1 (kept ∙ star
 abbrev givenM : Given
 givenM = givenBy M (likeM absent 17 0)
 
-abbrev zeros : ℕ → List ℕ
-zeros zero = []
-zeros (suc n) = 0 ∷ zeros n
-
 writes-M : writing givenM 21 ≡ written M
 unfolding writing message beforeField fieldNumber badFlags badEnd hasZero strayIntegrity
 writes-M = refl
 
-pub write-does-not-touch-nothing : (r : Writing) → Writes givenM (zeros 21) r (zeros 21) → ⊥
+pub write-does-not-touch-nothing : (r : Writing) → Writes givenM (replicate 21 0) r (replicate 21 0) → ⊥
 write-does-not-touch-nothing r kept =
-    apart 0 4 tt (ap (λ (s : List ℕ). getD s 0 0) (kept .1 ∙ ap (λ (o : Outcome). bufferAfter o (zeros 21)) writes-M))
+    apart 0 4 tt (ap (λ (s : List ℕ). getD s 0 0) (kept .1 ∙ ap (λ (o : Outcome). bufferAfter o (replicate 21 0)) writes-M))
 
-pub write-leaves-the-rest : (r : Writing) → Writes givenM (zeros 22) r (M ++ 9 ∷ []) → ⊥
+pub write-leaves-the-rest : (r : Writing) → Writes givenM (replicate 22 0) r (M ++ 9 ∷ []) → ⊥
 unfolding writing message beforeField fieldNumber badFlags badEnd hasZero strayIntegrity
 write-leaves-the-rest r kept = apart 9 0 tt (ap (λ (s : List ℕ). getD s 21 0) (kept .1))
 
 -- ---- rewrite: nothing touched; a message of which one byte is missing
 
-pub rewrite-does-not-touch-nothing : Rewrites M (zeros 21) (again.Written 21) (zeros 21) → ⊥
+pub rewrite-does-not-touch-nothing : Rewrites M (replicate 21 0) (again.Written 21) (replicate 21 0) → ⊥
 rewrite-does-not-touch-nothing kept =
     apart 0 4 tt (ap (λ (s : List ℕ). getD s 0 0) (rw (starred .a .0) at (kept .1)))
 
-pub rewrite-refuses-what-read-refuses : (exit : List ℕ) → Rewrites (take 20 M) (zeros 21) (again.Written 20) exit → ⊥
+pub rewrite-refuses-what-read-refuses : (exit : List ℕ) → Rewrites (take 20 M) (replicate 21 0) (again.Written 20) exit → ⊥
 rewrite-refuses-what-read-refuses exit kept = told (rw (starred .b) at (kept .0))
   where
     told : rewrote 20 ≡ unread (record { number = 1 }) → ⊥
