@@ -1,19 +1,21 @@
 -- For each promise about golden files two answers that a careless program would give, each refuted by computing.
 -- `M` is a message of document 01, and `recordOf M` a file of its one record.
-use mathlib.Core.List.{List, [], _∷_}
+use mathlib.Core.List.{List, [], _∷_, _++_}
 use mathlib.Core.Path.{_≡_, refl, sym, ap, _∙_}
 use Prim.Native.Nat.{ℕ}
 use denote.Ref.{RefT, now}
 use native.Mathlib.Omega.{arith}
 use lib.ListN.{length, getD, replicate}
 use Rattle.envelope.specs.Fields.{absent}
+use Rattle.envelope.specs.Numbers.{twoAt}
 use Rattle.envelope.specs.declared.reader.Fault.the-variants.{TooShort}
 use Rattle.golden.specs.Checking.{counted, checking, Checks}
 use Rattle.golden.specs.Comparing.{same, different, listAfter, comparing, Compares}
-use Rattle.golden.specs.File.{badFile}
+use Rattle.golden.specs.File.{badFile, judgedAt}
 use Rattle.golden.specs.Finding.{findFrom, finding, Finds}
 use Rattle.golden.specs.Listing.{counting, entryAt, Counts, Enters}
 use Rattle.golden.specs.Making.{making, recordOf, bufferAfter, MakeAnswer, made, declined, Makes}
+use Rattle.golden.specs.Record.{storedWord, storedLength, badLength, judging}
 use Rattle.golden.specs.Refusal.{Refused, plainly, NumbersRecordFault}
 use Rattle.golden.specs.Stepping.{stepAt, nextAfter, Steps}
 use Rattle.golden.specs.Theorems.{MadeGood}
@@ -45,7 +47,7 @@ check-refuses-one-byte kept = let z : _≡_ {A = ℕ} 0 1 = cc in omega arith
 pub check-counts-its-records : Checks (recordOf M) (checking.Count 0) → ⊥
 check-counts-its-records kept = let z : counted 0 ≡ counted 1 = kept ∙ good-M .checks in let y : _≡_ {A = ℕ} 0 1 = cc in omega arith
 
--- ---- find: a record invented; an opened record invented
+-- ---- find: a record invented; an opened record invented; on past a bad record
 
 pub find-invents-no-record : (name : Name) → Finds [] name (finding.Found 0 1) → ⊥
 unfolding finding findFrom badFile
@@ -54,6 +56,11 @@ find-invents-no-record name kept = let z : _≡_ {A = ℕ} 0 1 = cc in omega ari
 pub find-invents-no-opened-record : (name : Name) → Finds [] name (finding.Missing 1) → ⊥
 unfolding finding findFrom badFile
 find-invents-no-opened-record name kept = let z : _≡_ {A = ℕ} 1 0 = cc in omega arith
+
+-- a record of zeros is bad, and M stands behind it
+pub find-stops-at-a-bad-record : Finds (replicate 512 0 ++ recordOf M) (record { «message_type» = 6000; number = 1 }) (finding.Found 1 2) → ⊥
+unfolding finding findFrom badFile judgedAt judging badLength storedLength storedWord twoAt recordOf
+find-stops-at-a-bad-record kept = let z : _≡_ {A = ℕ} 0 1 = cc in omega arith
 
 -- ---- step and walk: on past the end; the end of what is no file; a walk that begins later, or on another file; one that stays
 
