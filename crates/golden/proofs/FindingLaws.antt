@@ -2,16 +2,16 @@
 -- `n` is the record at hand, and `count - n` are left with it.
 use mathlib.Core.Bool.{Bool, true, false, cond}
 use mathlib.Core.List.{List}
-use mathlib.Core.Path.{_≡_, ap, sym, _∙_}
+use mathlib.Core.Path.{_≡_, refl, ap, sym}
 use Prim.Native.Nat.{ℕ, suc, _+_, _-_, _≤_, _<_}
 use native.Mathlib.Omega.{arith}
 use Rattle.envelope.specs.Fields.{Fields}
 use Rattle.golden.specs.Checking.{CheckAnswer, counted, unlessBad, checkFrom, checking}
 use Rattle.golden.specs.Checking as check
 use Rattle.golden.specs.File.{badFile, countOf, recordAt, judgedAt}
-use Rattle.golden.specs.Finding.{NameFields, FindAnswer, decides, findFrom, finding}
+use Rattle.golden.specs.Finding.{NameFields, hasName, FindAnswer, decides, findFrom, finding}
 use Rattle.golden.specs.Finding as find
-use Rattle.golden.specs.Helpers.{holding, spoilt, openedAs, opening}
+use Rattle.golden.specs.Helpers.{holding, spoilt, openedAs, opening, Sight, ill, sought, other, seenAs}
 use Rattle.golden.specs.Record.{storedLength, Judged, good, bad, judging}
 use Rattle.golden.specs.Refusal.{Refused, plainly}
 
@@ -61,6 +61,21 @@ module _ (f : List ℕ) where
 
 -- ---- find
 
+-- what the sight of record n decides
+abbrev pub decided : Sight → ℕ → FindAnswer → FindAnswer
+decided (ill r) n others = find.refused r (n + 1)
+decided sought n others = find.found n (n + 1)
+decided other n others = others
+
+by-name : (b : Bool) (n : ℕ) (others : FindAnswer) → cond b (find.found n (n + 1)) others ≡ decided (cond b sought other) n others
+by-name true n others = refl
+by-name false n others = refl
+
+by-sight : (name : NameFields) (n size : ℕ) (j : Judged) (others : FindAnswer)
+    → decides name n j others ≡ decided (seenAs name (openedAs size j)) n others
+by-sight name n size (bad r) others = refl
+by-sight name n size (good f) others = by-name (hasName name f) n others
+
 module _ (f : List ℕ) (name : NameFields) where
   pub find-21 : badFile f ≡ true → find.refused (plainly 21) 0 ≡ finding f name
   unfolding finding
@@ -73,19 +88,13 @@ module _ (f : List ℕ) (name : NameFields) where
   pub find-start : (count : ℕ) → findFrom f name 0 count ≡ findFrom f name 0 (count - 0)
   find-start count = ap (findFrom f name 0) (omega arith)
 
-  pub find-on : (n count : ℕ) → n < count → (j : Judged) → judgedAt f n ≡ j
-      → findFrom f name n (count - n) ≡ decides name n j (findFrom f name (n + 1) (count - (n + 1)))
-  unfolding findFrom
-  find-on n count h j e =
+  pub find-on : (n count : ℕ) → n < count → (x : Sight) → x ≡ seenAs name (opening (recordAt f n))
+      → findFrom f name n (count - n) ≡ decided x n (findFrom f name (n + 1) (count - (n + 1)))
+  unfolding findFrom opening judgedAt
+  find-on n count h x e =
       let k : count - n ≡ suc (count - (n + 1)) = omega arith in
-      rw (k, e)
+      rw (k, e) (by-sight name n (storedLength (recordAt f n)) (judging (recordAt f n)) (findFrom f name (n + 1) (count - (n + 1))))
 
   pub find-end : (n count : ℕ) → count ≤ n → findFrom f name n (count - n) ≡ find.refused (plainly 27) n
   unfolding findFrom
   find-end n count h = let k : count - n ≡ 0 = omega arith in rw k
-
-pub named : (b x : Bool) (a o : FindAnswer) → x ≡ b → x ≡ true → cond b a o ≡ a
-named b x a o e h = rw (sym e ∙ h)
-
-pub unnamed : (b x : Bool) (a o : FindAnswer) → x ≡ b → x ≡ false → cond b a o ≡ o
-unnamed b x a o e h = rw (sym e ∙ h)

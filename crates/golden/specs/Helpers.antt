@@ -1,11 +1,15 @@
 -- Meanings of the private helpers' answers. No promise to a user names them.
 -- Beside `Judged` of specs/Record an opened record has its stored length with its fields.
 use Prim.Native.Nat.{ℕ}
+use mathlib.Core.Bool.{cond}
 use mathlib.Core.List.{List}
 use Rattle.envelope.specs.Fields.{Fields}
 use Rattle.envelope.specs.Told.{toldEnvelope}
+use Rattle.golden.specs.Finding.{NameFields, hasName}
 use Rattle.golden.specs.Record.{storedLength, Judged, good, bad, judging}
 use Rattle.golden.specs.Refusal.{Refused, toldRecordFault}
+use Rattle.golden.specs.declared.finder.Seen.{Seen}
+use Rattle.golden.specs.declared.finder.Seen.the-variants as seen
 use Rattle.golden.specs.declared.record.Opening.{Opening}
 use Rattle.golden.specs.declared.record.Opening.the-variants.{Good, Bad}
 
@@ -23,3 +27,18 @@ opening r = openedAs (storedLength r) (judging r)
 abbrev pub toldOpening : Opening → Opened
 toldOpening (Good g) = holding (g .size) (toldEnvelope (g .envelope))
 toldOpening (Bad fault) = spoilt (toldRecordFault fault)
+
+-- what an opened record is to find: bad, the one sought, or another
+pub data Sight : Type 0 where
+  ill : Refused → Sight
+  sought : Sight
+  other : Sight
+
+abbrev pub seenAs : NameFields → Opened → Sight
+seenAs name (spoilt r) = ill r
+seenAs name (holding size f) = cond (hasName name f) sought other
+
+abbrev pub toldSeen : Seen → Sight
+toldSeen (seen.Bad fault) = ill (toldRecordFault fault)
+toldSeen seen.Sought = sought
+toldSeen seen.Other = other

@@ -2,6 +2,7 @@
 ghost use mathlib.Core.Path.{_≡_};
 ghost use Rattle.envelope.specs.Told.{toldEnvelope};
 ghost use Rattle.golden.specs.Finding.{hasName, toldName, Finds};
+ghost use Rattle.golden.specs.Helpers.{toldOpening, seenAs, toldSeen};
 use crate::file::count_of;
 use crate::file::open_at;
 use crate::file::refused;
@@ -22,6 +23,13 @@ pub enum Finding {
     Bad { fault: RecordFault, opened: usize },
 }
 
+// What an opened record is to find: it ends the search, or the search goes on.
+enum Seen {
+    Bad(RecordFault),
+    Sought,
+    Other,
+}
+
 pub fn find(file: &[u8], name: Name) -> Finding
     ensures { λ r. ⌜ Finds (now (file .entry)) name r ⌝ }
 {
@@ -31,25 +39,38 @@ pub fn find(file: &[u8], name: Name) -> Finding
     let count = count_of(file);
     let mut n = 0;
     while n < count {
-        match open_at(file, n) {
-            Opening::Bad(fault) => {
+        match weigh(open_at(file, n), name) {
+            Seen::Bad(fault) => {
                 return Finding::Bad {
                     fault,
                     opened: n + 1,
                 };
             }
-            Opening::Good(good) => {
-                if has_name(name, good) {
-                    return Finding::Found {
-                        record: n,
-                        opened: n + 1,
-                    };
-                }
+            Seen::Sought => {
+                return Finding::Found {
+                    record: n,
+                    opened: n + 1,
+                };
             }
+            Seen::Other => {}
         }
         n += 1;
     }
     Finding::Missing { opened: n }
+}
+
+fn weigh(opening: Opening, name: Name) -> Seen
+    ensures { λ r. ⌜ toldSeen r ≡ seenAs (toldName name) (toldOpening opening) ⌝ }
+{
+    match opening {
+        Opening::Bad(fault) => Seen::Bad(fault),
+        Opening::Good(good) => {
+            if has_name(name, good) {
+                return Seen::Sought;
+            }
+            Seen::Other
+        }
+    }
 }
 
 fn has_name(name: Name, good: GoodRecord) -> bool

@@ -1,11 +1,11 @@
--- The loop of `finder::find`: the records that are left give what all of them give.
+-- -- The loop of `finder::find`: the records that are left give what all of them give.
 use mathlib.Core.Path.{_≡_, ap, sym, _∙_}
 use Prim.Native.Nat.{_≤_, _-_}
 use native.Mathlib.Omega.{arith}
 use borrow.Author.Needs.{needs}
-use Rattle.golden.proofs.FindingLaws.{judged-bad, judged-good, find-21, find-all, find-start, find-on, find-end, named, unnamed}
+use Rattle.golden.proofs.FindingLaws.{find-21, find-all, find-start, find-on, find-end}
 use Rattle.golden.specs.Finding.{findFrom, toldName}
-use Rattle.golden.specs.Helpers.{toldOpening}
+use Rattle.golden.specs.Helpers.{seenAs, toldSeen}
 use Rattle.golden.proofs.finder.find.Statement.{statement}
 use Rattle.golden.proofs.finder.find.Tie as tie
 
@@ -30,6 +30,9 @@ loop-holds c = (omega arith, find-start _ _ _)
 open-at-requires : tie.Need-open-at-requires Inv-loop μ-loop
 open-at-requires c κs = omega arith
 
+weigh-requires : tie.Need-weigh-requires Inv-loop μ-loop
+weigh-requires c κs = search needs
+
 enum-known-fault : tie.Need-enum-known-fault Inv-loop μ-loop
 enum-known-fault c = search needs
 
@@ -38,28 +41,28 @@ add-t10 c = search needs
 
 returns-2 : tie.Need-returns-2 Inv-loop μ-loop
 returns-2 c =
-    let count = c .before .before .before .before .before .before in
+    let count = c .before .before .before .before .before .before .before in
     find-all _ _ (sym (count .before .before .refused .ensures) ∙ count .before .if1 .left) _
     (rw (← count .count-of .ensures)
-    (c .before .before .before .before .before .loop .inv .1 ∙ find-on _ _ _ _ (c .before .before .before .before .loop-test .taken) _ (judged-bad _ _ _ (ap toldOpening (sym (c .before .fault .given .1)) ∙ c .before .before .before .open-at .ensures))))
+    (c .before .before .before .before .before .before .loop .inv .1
+    ∙ find-on _ _ _ _ (c .before .before .before .before .before .loop-test .taken) _ (ap toldSeen (sym (c .before .fault .given .1)) ∙ c .before .before .before .weigh .ensures ∙ ap (seenAs _) (c .before .before .before .before .open-at .ensures))))
 
-enum-known-good : tie.Need-enum-known-good Inv-loop μ-loop
-enum-known-good c = search needs
+enum-told : tie.Need-enum-told Inv-loop μ-loop
+enum-told c = search needs
 
-has-name-requires : tie.Need-has-name-requires Inv-loop μ-loop
-has-name-requires c κs = search needs
-
-add-t12 : tie.Need-add-t12 Inv-loop μ-loop
-add-t12 c = search needs
+add-t11 : tie.Need-add-t11 Inv-loop μ-loop
+add-t11 c = search needs
 
 returns-3 : tie.Need-returns-3 Inv-loop μ-loop
 returns-3 c =
-    let count = c .before .before .before .before .before .before .before .before in
+    let count = c .before .before .before .before .before .before in
     find-all _ _ (sym (count .before .before .refused .ensures) ∙ count .before .if1 .left) _
     (rw (← count .count-of .ensures)
-    (c .before .before .before .before .before .before .before .loop .inv .1
-    ∙ find-on _ _ _ _ (c .before .before .before .before .before .before .loop-test .taken) _ (judged-good _ _ _ _ (ap toldOpening (sym (c .before .before .before .good2 .given .1)) ∙ c .before .before .before .before .before .open-at .ensures) .0)
-    ∙ named _ _ _ _ (c .before .has-name .ensures) (c .if2 .taken)))
+    (c .before .before .before .before .before .loop .inv .1
+    ∙ find-on _ _ _ _ (c .before .before .before .before .loop-test .taken) _ (ap toldSeen (sym (c .enum-told .given .1)) ∙ c .before .before .weigh .ensures ∙ ap (seenAs _) (c .before .before .before .open-at .ensures))))
+
+enum-told-2 : tie.Need-enum-told-2 Inv-loop μ-loop
+enum-told-2 c = search needs
 
 add-n : tie.Need-add-n Inv-loop μ-loop
 add-n c = search needs
@@ -70,9 +73,8 @@ loop-less c = search needs
 loop-again : tie.Need-loop-again Inv-loop μ-loop
 loop-again c = (
   omega arith,
-  c .before .before .before .before .before .before .before .loop .inv .1
-      ∙ find-on _ _ _ _ (c .before .before .before .before .before .before .loop-test .taken) _ (judged-good _ _ _ _ (ap toldOpening (sym (c .before .before .before .good2 .given .1)) ∙ c .before .before .before .before .before .open-at .ensures) .0)
-      ∙ unnamed _ _ _ _ (c .before .has-name .ensures) (c .if2 .left),
+  c .before .before .before .before .before .loop .inv .1
+      ∙ find-on _ _ _ _ (c .before .before .before .before .loop-test .taken) _ (ap toldSeen (sym (c .enum-told2 .given .1)) ∙ c .before .before .weigh .ensures ∙ ap (seenAs _) (c .before .before .before .open-at .ensures)),
 )
 
 returns-4 : tie.Need-returns-4 Inv-loop μ-loop
@@ -92,13 +94,14 @@ find-spec =
     count-of-requires
     loop-holds
     open-at-requires
+    weigh-requires
     enum-known-fault
     add-t10
     returns-2
-    enum-known-good
-    has-name-requires
-    add-t12
+    enum-told
+    add-t11
     returns-3
+    enum-told-2
     add-n
     loop-less
     loop-again
