@@ -2,10 +2,11 @@
 -- And 25 never carries 1, since a stored length below 21 is refused first.
 use mathlib.Core.Bool.{Bool, true, false, cond, not}
 use mathlib.Core.List.{List, [], _++_}
-use mathlib.Core.Path.{_≡_, refl, ap, _∙_}
+use mathlib.Core.Path.{_≡_, refl, ap, sym, _∙_}
 use Prim.Native.Nat.{ℕ, zero, suc, _+_, _-_, _/_, _≤_, _<_}
 use native.Mathlib.Omega.{arith}
-use borrow.Author.Tests.{eq-eqb, le-ltb, lt-leb}
+use borrow.Author.Tests.{eq-eqb, le-ltb, lt-leb, ltb-false}
+use lib.Dec.{ltb}
 use lib.ListN.{length, take, drop, getD, replicate}
 use lib.Seq.{take-all, take-append-seam, drop-append-seam, drop-append-add}
 use Rattle.envelope.proofs.ReadingLaws.{accepted-least, long-not-1}
@@ -19,7 +20,7 @@ use Rattle.golden.specs.Checking.{counted, checkFrom, checking}
 use Rattle.golden.specs.Comparing.{differsAt, differing, properBeginning, positions, comparingMessages, comparing, same, answerOf}
 use Rattle.golden.specs.File.{badFile, countOf, recordAt, judgedAt}
 use Rattle.golden.specs.Finding.{found, findFrom, finding}
-use Rattle.golden.specs.Making.{recordOf}
+use Rattle.golden.specs.Making.{recordOf, MakeAnswer, made, declined, afterReading, making, bufferAfter}
 use Rattle.golden.specs.Positions.{select}
 use Rattle.golden.specs.Record.{recordSize, headSize, longestMessage, storedWord, storedLength, messageOf, allZero, badLength, notClear, Judged, good, bad, byReading, judging}
 use Rattle.golden.specs.Refusal.{plainly, passingOn}
@@ -108,22 +109,53 @@ module _ (m : List ℕ) (fields : Fields) (short : length m ≤ longestMessage) 
         accepts = rw (message-back m) accepts;
       }))
 
-  checks : checking file ≡ counted 1
+  pub checks : checking file ≡ counted 1
   unfolding checking checkFrom
   checks = rw (whole, one, judged)
 
-  compares : answerOf (comparing file 0 m) ≡ same
-  unfolding comparing answerOf
-  compares = rw (whole, one, judged, accepts, first, message-back m, compares-same m)
+  pub compared : comparing file 0 m ≡ positions []
+  unfolding comparing
+  compared = rw (whole, one, judged, accepts, first, message-back m) (compares-same m)
+
+  pub compares : answerOf (comparing file 0 m) ≡ same
+  unfolding answerOf
+  compares = ap answerOf compared
 
   finds : finding file (nameOf fields) ≡ found 0 1
   unfolding finding findFrom
   finds =
       rw (whole, one, judged, eq-eqb (fields .header .messageType) (fields .header .messageType) refl, eq-eqb (fields .header .number) (fields .header .number) refl)
 
+-- ---- what made a record: a message that is short enough and accepted
+
+record Makeable (m : List ℕ) : Type 0 where
+  fields : Fields
+  short : length m ≤ longestMessage
+  accepts : reading m ≡ accepted fields
+
+makeable : (m : List ℕ) (room : ℕ) (b : Bool) (x : Answer) → ltb longestMessage (length m) ≡ b → reading m ≡ x
+    → cond b (declined (plainly 33)) (afterReading x room) ≡ made → Makeable m
+makeable m room true x l e o = absurd (let z : _≡_ {A = ℕ} 0 1 = cc in omega arith)
+makeable m room false (envelope.refused r) l e o = absurd (let z : _≡_ {A = ℕ} 0 1 = cc in omega arith)
+makeable m room false (accepted f) l e o = record { fields = f; short = ltb-false longestMessage (length m) l; accepts = e }
+
+was-makeable : (m : List ℕ) (room : ℕ) → making m room ≡ made → Makeable m
+unfolding making
+was-makeable m room o = makeable m room (ltb longestMessage (length m)) (reading m) refl refl o
+
 pub made-is-good : MadeIsGood
-made-is-good m fields short accepts =
-    record { checks = checks m fields short accepts; compares = compares m fields short accepts; finds = finds m fields short accepts }
+made-is-good m entry exit a kept e =
+    let o : making m (length entry) ≡ made = sym (kept .0) ∙ e in
+    let w = was-makeable m (length entry) o in
+    let x : exit ≡ recordOf m = kept .1 ∙ ap (λ (y : MakeAnswer). bufferAfter y m entry) o in
+    rw x
+    (record {
+      fields = w .fields;
+      accepts = w .accepts;
+      checks = checks m (w .fields) (w .short) (w .accepts);
+      compares = compares m (w .fields) (w .short) (w .accepts);
+      finds = finds m (w .fields) (w .short) (w .accepts);
+    })
 
 -- ---- 25 never carries 1
 

@@ -1,7 +1,7 @@
 -- The record of a message as the two copies leave it, and the cases of making one.
 -- `m` is the message, and `recordOf m` its record.
 use mathlib.Core.List.{List, [], _∷_, _++_, append-nil}
-use mathlib.Core.Path.{_≡_, ap, sym, _∙_}
+use mathlib.Core.Path.{_≡_, ap, ap₂, sym, _∙_}
 use Prim.Native.Nat.{ℕ, zero, suc, _+_, _-_, _/_, _%_, _≤_, _<_}
 use native.Mathlib.Omega.{arith}
 use borrow.Author.Tests.{lt-ltb, le-ltb, eq-eqb, ne-eqb}
@@ -33,10 +33,7 @@ record-length m h = rw (length-append m (replicate (longestMessage - length m) 0
 -- a whole record copied over a buffer of its size
 pub copied-record : (b r x : List ℕ) → length b ≡ recordSize → length x ≡ recordSize → r ≡ take (length x) x ++ drop (length x) b → r ≡ x
 copied-record b r x hb hx e =
-    e ∙ ap₂′ (take-length x) (drop-of-length-le b {i = length x} (omega arith)) ∙ append-nil x
-  where
-    ap₂′ : {p q s t : List ℕ} → p ≡ q → s ≡ t → p ++ s ≡ q ++ t
-    ap₂′ u v = λ i. u i ++ v i
+    e ∙ ap₂ (λ (p q : List ℕ). p ++ q) (take-length x) (drop-of-length-le b {i = length x} (omega arith)) ∙ append-nil x
 
 -- ---- the cases of making
 

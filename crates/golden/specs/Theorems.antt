@@ -15,8 +15,8 @@ use Rattle.golden.specs.Comparing.{properBeginning, comparing, same, unl
 use Rattle.golden.specs.File.{badFile, countOf, recordAt, judgedAt}
 use Rattle.golden.specs.Finding.{NameFields, hasName, FindAnswer, found, finding}
 use Rattle.golden.specs.Finding as find
-use Rattle.golden.specs.Making.{recordOf, declined, toldMaking, Makes}
-use Rattle.golden.specs.Record.{recordSize, headSize, longestMessage, messageOf, good, bad}
+use Rattle.golden.specs.Making.{made, declined, toldMaking, Makes}
+use Rattle.golden.specs.Record.{recordSize, headSize, messageOf, good, bad}
 use Rattle.golden.specs.Refusal.{Refused, plainly, passingOn}
 use Rattle.golden.specs.Stepping.{end, stepOf, toldReached}
 use Rattle.golden.specs.Stepping as step
@@ -84,14 +84,16 @@ FindsTheFirst = (f : List ℕ) (name : NameFields) (n : ℕ) → checking f ≡ 
 abbrev pub nameOf : Fields → NameFields
 nameOf fields = record { messageType = fields .header .messageType; number = fields .header .number }
 
--- a file of the one record that make writes: it checks, compares same with its message, and is found by its name
-pub record MadeGood (m : List ℕ) (fields : Fields) : Type 0 where
-  pub checks : checking (recordOf m) ≡ counted 1
-  pub compares : answerOf (comparing (recordOf m) 0 m) ≡ same
-  pub finds : finding (recordOf m) (nameOf fields) ≡ found 0 1
+-- where `make` of a message answers made, the buffer is a file of one record: it checks, compares same with the message, and is found by its name
+pub record MadeGood (m exit : List ℕ) : Type 0 where
+  pub fields : Fields
+  pub accepts : reading m ≡ accepted fields
+  pub checks : checking exit ≡ counted 1
+  pub compares : answerOf (comparing exit 0 m) ≡ same
+  pub finds : finding exit (nameOf fields) ≡ found 0 1
 
 abbrev pub MadeIsGood : Type 0
-MadeIsGood = (m : List ℕ) (fields : Fields) → length m ≤ longestMessage → reading m ≡ accepted fields → MadeGood m fields
+MadeIsGood = (m entry exit : List ℕ) (a : Making) → Makes m entry a exit → toldMaking a ≡ made → MadeGood m exit
 
 -- ---- 25 never carries reading number 1: 23 comes first
 

@@ -10,11 +10,12 @@ use Rattle.envelope.specs.Fields.{absent}
 use Rattle.envelope.specs.Numbers.{twoAt}
 use Rattle.envelope.specs.declared.reader.Fault.the-variants.{TooShort}
 use Rattle.golden.specs.Checking.{counted, checking, Checks}
-use Rattle.golden.specs.Comparing.{same, different, listAfter, comparing, Compares}
+use Rattle.golden.specs.Comparing.{Outcome, same, different, listAfter, comparing, Compares}
 use Rattle.golden.specs.File.{badFile, judgedAt}
 use Rattle.golden.specs.Finding.{findFrom, finding, Finds}
 use Rattle.golden.specs.Listing.{counting, entryAt, Counts, Enters}
 use Rattle.golden.specs.Making.{making, recordOf, bufferAfter, MakeAnswer, made, declined, Makes}
+use Rattle.golden.specs.Positions.{noted}
 use Rattle.golden.specs.Record.{storedWord, storedLength, badLength, judging}
 use Rattle.golden.specs.Refusal.{Refused, plainly, NumbersRecordFault}
 use Rattle.golden.specs.Stepping.{stepAt, nextAfter, Steps}
@@ -30,13 +31,10 @@ use Rattle.golden.specs.declared.maker.Making.the-variants as making
 use Rattle.golden.specs.declared.record.RecordFault.the-variants.{BadLength, Unread}
 use Rattle.golden.specs.declared.stepper.Reached.{Reached}
 use Rattle.golden.specs.declared.stepper.Reached.the-variants.{End, NotAFile}
-use Rattle.golden.proofs.MadeLaws.{made-is-good}
+use Rattle.golden.proofs.MadeLaws.{checks, compared, compares}
 use Rattle.sheet.specs.Cases.{M, likeM}
 use Rattle.sheet.proofs.Apart.{apart}
 use Rattle.sheet.proofs.Cases.{starred}
-
-good-M : MadeGood M (likeM absent 17 0)
-good-M = made-is-good M (likeM absent 17 0) (omega arith) (starred .a .0)
 
 -- ---- check: one byte told as no records; a good file told as none
 
@@ -45,7 +43,7 @@ unfolding checking badFile
 check-refuses-one-byte kept = let z : _≡_ {A = ℕ} 0 1 = cc in omega arith
 
 pub check-counts-its-records : Checks (recordOf M) (checking.Count 0) → ⊥
-check-counts-its-records kept = let z : counted 0 ≡ counted 1 = kept ∙ good-M .checks in let y : _≡_ {A = ℕ} 0 1 = cc in omega arith
+check-counts-its-records kept = let z : counted 0 ≡ counted 1 = kept ∙ checks M (likeM absent 17 0) (omega arith) (starred .a .0) in let y : _≡_ {A = ℕ} 0 1 = cc in omega arith
 
 -- ---- find: a record invented; an opened record invented; on past a bad record
 
@@ -112,13 +110,19 @@ pub entry-invents-no-line : Enters [] 0 (entry.Good 0 0 0) → ⊥
 unfolding entryAt badFile
 entry-invents-no-line kept = let z : _≡_ {A = ℕ} 0 1 = cc in omega arith
 
--- ---- compare: a difference invented; a list entry written on a refusal
+-- ---- compare: a difference invented; a place beyond the differences written; a list entry written on a refusal
 
 pub compare-invents-no-difference : (entry exit : List ℕ) → Compares (recordOf M) 0 M entry (comparison.Different 1) exit → ⊥
 compare-invents-no-difference entry exit kept =
-    let z : different 1 ≡ same = kept .0 ∙ good-M .compares in
+    let z : different 1 ≡ same = kept .0 ∙ compares M (likeM absent 17 0) (omega arith) (starred .a .0) in
     let y : _≡_ {A = ℕ} 0 1 = cc in
     omega arith
+
+pub compare-keeps-the-places-beyond : Compares (recordOf M) 0 M (9 ∷ []) comparison.Same (0 ∷ []) → ⊥
+unfolding listAfter noted
+compare-keeps-the-places-beyond kept =
+    apart 0 9 tt
+    (ap (λ (s : List ℕ). getD s 0 0) (kept .1 ∙ ap (λ (o : Outcome). listAfter o (9 ∷ [])) (compared M (likeM absent 17 0) (omega arith) (starred .a .0))))
 
 pub compare-lists-nothing-on-a-refusal : Compares [] 0 M (9 ∷ []) comparison.NoRecord (0 ∷ []) → ⊥
 unfolding comparing listAfter badFile
