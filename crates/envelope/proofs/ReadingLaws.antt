@@ -15,7 +15,7 @@ use Rattle.envelope.specs.Fields.{IntegrityFields, none, crc, applicatio
 use Rattle.envelope.specs.Flags.{kindOf, kindNone, kindCrc, kindApplication, kindUnassigned, badFlags}
 use Rattle.envelope.specs.Heading.{flagsOf, variableSize, dataLength, fieldPlace, announced, wrongVersion, badVariableSize, Judged, passed, broken, heading}
 use Rattle.envelope.specs.IntegrityField.{badIntegrity}
-use Rattle.envelope.specs.Layout.{typePlace, numberPlace, leastSize, fieldSize, largestBody}
+use Rattle.envelope.specs.Layout.{typePlace, numberPlace, leastSize, fieldSize, largestBody, largestMessage}
 use Rattle.envelope.specs.Numbers.{twoAt, threeAt, fourAt}
 use Rattle.envelope.specs.Reading.{tooShort, wrongLength, headerOf, integrityOf, fieldsOf, readingWhole, after, reading}
 use Rattle.envelope.proofs.HeadingLaws.{Passed, announced-is, heading-passed, passed-heading, kind-assigned, size-most}
@@ -76,7 +76,7 @@ unfolding threeAt
 data-length-most s bytes = omega (arith, bytes 5, bytes 6, bytes 7)
 
 -- 17 + 132 + 16,777,215 + 4
-pub accepted-most : (s : List ℕ) (f : Fields) → Bytes s → reading s ≡ accepted f → length s ≤ 16777368
+pub accepted-most : (s : List ℕ) (f : Fields) → Bytes s → reading s ≡ accepted f → length s ≤ largestMessage
 accepted-most s f bytes e =
     let g = good s f e in
     omega (arith, g .size, announced-is s, size-most (variableSize s) (g .heading .size), data-length-most s bytes)

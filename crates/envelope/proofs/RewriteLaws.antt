@@ -3,14 +3,17 @@
 use mathlib.Core.Bool.{Bool, true, false, cond}
 use mathlib.Core.List.{List, []}
 use mathlib.Core.Path.{_≡_, refl, ap, sym, _∙_, subst}
-use Prim.Native.Nat.{ℕ}
+use Prim.Native.Nat.{ℕ, _≤_}
+use native.Mathlib.Omega.{arith}
 use lib.Dec.{ltb}
 use lib.ListN.{length}
 use Rattle.sum.specs.Detection.{Bytes}
-use Rattle.envelope.specs.Fields.{Fields, accepted, partOf}
+use Rattle.envelope.specs.Fields.{Fields, Answer, accepted, partOf}
+use Rattle.envelope.specs.Fields as fields
+use Rattle.envelope.specs.Layout.{largestMessage}
 use Rattle.envelope.specs.Message.{Given}
 use Rattle.envelope.specs.Reading.{reading}
-use Rattle.envelope.specs.Rewriting.{RewriteAnswer, rewrote, barred, rewriting, rewritten}
+use Rattle.envelope.specs.Rewriting.{RewriteAnswer, rewrote, barred, afterReading, rewriting, rewritten, rewroteLength, RewritesNoLonger}
 use Rattle.envelope.specs.RoundTrips.{applicationNumber, givenBy}
 use Rattle.envelope.specs.Told.{toldPart, toldIntegrity, toldEnvelope}
 use Rattle.envelope.specs.Writing.{Outcome, written, refused, writing, bufferAfter, wrote, answerOf, given, Writes}
@@ -20,6 +23,7 @@ use Rattle.envelope.specs.declared.fields.Envelope.{Envelope}
 use Rattle.envelope.specs.declared.fields.Part.{Part}
 use Rattle.envelope.specs.declared.writer.Routing.the-variants as routing
 use Rattle.envelope.specs.declared.writer.Writing.{Writing}
+use Rattle.envelope.proofs.ReadingLaws.{accepted-most}
 use Rattle.envelope.proofs.RoundTripLaws.{written-again}
 
 -- ---- what is lent is what was handed out
@@ -75,3 +79,16 @@ module _ (s : List ℕ) (f : Fields) (entry exit : List ℕ) (bytes : Bytes s) (
   no-room k e =
       let p = barred-cases short s entry k (e ∙ ap answerOf outcome) in
       (p .0 ∙ sym rewriting-is, kept ∙ ap (λ (o : Outcome). bufferAfter o entry) outcome ∙ p .1 ∙ ap (λ (a : RewriteAnswer). rewritten a s entry) (sym rewriting-is))
+
+-- ---- how long an answer can be
+
+pub rewrites-no-longer : RewritesNoLonger
+rewrites-no-longer s room bytes = go (reading s) refl
+  where
+    fits : (b : Bool) → length s ≤ largestMessage → rewroteLength (cond b (barred 15) (rewrote (length s))) ≤ largestMessage
+    fits true h = omega arith
+    fits false h = h
+
+    go : (a : Answer) → reading s ≡ a → rewroteLength (afterReading a s room) ≤ largestMessage
+    go (fields.refused r) e = omega arith
+    go (accepted f) e = fits (ltb room (length s)) (accepted-most s f bytes e)

@@ -2,7 +2,7 @@
 -- `pasted` stands for the steps, `bufferAfter` for the promise.
 use mathlib.Core.Bool.{Bool, true, false, cond, _||_}
 use mathlib.Core.List.{List, [], _∷_, _++_, append-assoc}
-use mathlib.Core.Path.{_≡_, refl, sym, _∙_}
+use mathlib.Core.Path.{_≡_, refl, ap, sym, _∙_}
 use Prim.Native.Nat.{ℕ, _≤_, _<_, _+_}
 use native.Mathlib.Nat.{zero-add}
 use native.Mathlib.Omega.{arith}
@@ -12,9 +12,9 @@ use lib.ListN.{length, take, drop, length-append}
 use lib.Seq.{take-append-seam}
 use Rattle.envelope.specs.Flags.{kindOf, badFlags}
 use Rattle.envelope.specs.Helpers.{pasted, variableLength, Allowed}
-use Rattle.envelope.specs.Layout.{headerSize, fieldSize, largestAddress, largestBody}
+use Rattle.envelope.specs.Layout.{headerSize, fieldSize, largestVariable, largestAddress, largestBody, largestMessage}
 use Rattle.envelope.specs.Message.{RoutingFields, unaddressed, addressed, Given, inFour, headerBytes, variableBytes, variableOf, beforeField, fieldNumber, message}
-use Rattle.envelope.specs.Writing.{hasZero, badEnd, strayEnds, badEnds, bodyTooLong, strayIntegrity, Outcome, written, refused, writing, bufferAfter, wrote, barred, answerOf, RefusalWritesNothing}
+use Rattle.envelope.specs.Writing.{hasZero, badEnd, strayEnds, badEnds, bodyTooLong, strayIntegrity, Outcome, written, refused, writing, bufferAfter, wrote, barred, answerOf, wroteLength, WritesNoLonger, RefusalWritesNothing}
 use Rattle.envelope.proofs.BoolLaws.{neither}
 use Rattle.envelope.proofs.PastedLaws.{pasted-more}
 
@@ -138,6 +138,25 @@ kept-allowed g room k =
       body-short = ltb-false largestBody (length (g .body)) (k .four .body);
       fits = omega (arith, ltb-false room (length (message g)) (k .fits), message-length g);
     }
+
+routing-most : (routing : RoutingFields) (s d : ℕ) → s < largestAddress → d < largestAddress → variableLength routing s d ≤ largestVariable
+routing-most unaddressed s d hs hd = omega arith
+routing-most (addressed ttl qos) s d hs hd = omega arith
+
+message-most : (g : Given) (room : ℕ) → Kept g room → length (message g) ≤ largestMessage
+message-most g room k =
+    let a = kept-allowed g room k in
+    omega (arith, message-length g, a .body-short, routing-most (g .routing) (length (g .source)) (length (g .destination)) (a .source-short) (a .destination-short))
+
+pub writes-no-longer : WritesNoLonger
+writes-no-longer g room = go (writing g room) refl
+  where
+    go : (w : Outcome) → writing g room ≡ w → wroteLength (answerOf w) ≤ largestMessage
+    go (refused n) e = omega arith
+    go (written m) e =
+        let k = wrote-kept g room (length m) (rw e) in
+        let same : length (message g) ≡ length m = ap (λ (w : Outcome). wroteLength (answerOf w)) (sym (kept-written g room k) ∙ e) in
+        omega (arith, same, message-most g room k)
 
 -- ---- the buffer afterwards
 

@@ -63,3 +63,7 @@ leastSize = headerSize + fieldSize
 -- the largest body that a data length of three bytes can state
 abbrev pub largestBody : ℕ
 largestBody = 16777215
+
+-- the longest message: all parts at their largest
+abbrev pub largestMessage : ℕ
+largestMessage = headerSize + largestVariable + largestBody + fieldSize

@@ -1,12 +1,14 @@
 -- Reading and writing again: the refusals of reading, then 15 where the buffer is shorter than the message, else the same bytes.
 -- `room` is the length of the buffer.
-use Prim.Native.Nat.{ℕ}
+use Prim.Native.Nat.{ℕ, _≤_}
 use mathlib.Core.Bool.{cond}
 use mathlib.Core.List.{List, _++_}
 use mathlib.Core.Path.{_≡_}
 use lib.Dec.{ltb}
 use lib.ListN.{length, drop}
 use Rattle.envelope.specs.Fields.{Refusal, Answer, accepted, refused}
+use Rattle.envelope.specs.Layout.{largestMessage}
+use Rattle.envelope.specs.Promise.{Bytes}
 use Rattle.envelope.specs.Reading.{reading}
 use Rattle.envelope.specs.Told.{toldFault}
 use Rattle.envelope.specs.declared.reader.Refusal as code
@@ -35,6 +37,15 @@ abbrev pub toldRewriting : Rewriting → RewriteAnswer
 toldRewriting (Written n) = rewrote n
 toldRewriting (Unread r) = unread (record { number = toldFault (r .fault) })
 toldRewriting NoRoom = barred 15
+
+-- no message is longer than the longest; proved in proofs/RewriteLaws
+abbrev pub rewroteLength : RewriteAnswer → ℕ
+rewroteLength (rewrote n) = n
+rewroteLength (unread r) = 0
+rewroteLength (barred n) = 0
+
+abbrev pub RewritesNoLonger : Type 0
+RewritesNoLonger = (s : List ℕ) (room : ℕ) → Bytes s → rewroteLength (rewriting s room) ≤ largestMessage
 
 -- what `rewrite` promises
 abbrev pub Rewrites : List ℕ → List ℕ → Rewriting → List ℕ → Type 0

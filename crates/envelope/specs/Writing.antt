@@ -1,13 +1,13 @@
 -- Writing: the five refusals in their order, the first that applies is the answer; a refusal writes nothing.
 -- `room` is the length of the buffer.
-use Prim.Native.Nat.{ℕ}
+use Prim.Native.Nat.{ℕ, _≤_}
 use mathlib.Core.Bool.{Bool, false, cond, not, _&&_, _||_}
 use mathlib.Core.List.{List, [], _∷_, _++_}
 use mathlib.Core.Path.{_≡_}
 use lib.Dec.{eqb, leb, ltb}
 use lib.ListN.{length, drop}
 use Rattle.envelope.specs.Flags.{kindOf, kindNone, kindCrc, badFlags}
-use Rattle.envelope.specs.Layout.{largestAddress, largestBody}
+use Rattle.envelope.specs.Layout.{largestAddress, largestBody, largestMessage}
 use Rattle.envelope.specs.Message.{RoutingFields, unaddressed, addressed, Given, message}
 use Rattle.envelope.specs.Told.{toldHeader}
 use Rattle.envelope.specs.declared.fields.Header.{Header}
@@ -108,6 +108,14 @@ given header routing source destination body application =
 abbrev pub Writes : Given → List ℕ → Writing → List ℕ → Type 0
 Writes g entry r exit =
     (toldWriting r ≡ answerOf (writing g (length entry))) × (exit ≡ bufferAfter (writing g (length entry)) entry)
+
+-- no message is longer than the longest; proved in proofs/WriteLaws
+abbrev pub wroteLength : WriteAnswer → ℕ
+wroteLength (wrote n) = n
+wroteLength (barred n) = 0
+
+abbrev pub WritesNoLonger : Type 0
+WritesNoLonger = (g : Given) (room : ℕ) → wroteLength (answerOf (writing g room)) ≤ largestMessage
 
 -- a refusal leaves the buffer as it was; proved in proofs/WriteLaws
 abbrev pub RefusalWritesNothing : Type 0

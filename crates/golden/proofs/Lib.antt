@@ -5,6 +5,7 @@ pub mod OpeningLaws
 pub mod ComparingLaws
 pub mod FindingLaws
 pub mod SteppingLaws
+pub mod FewLaws
 pub mod MakingLaws
 pub mod OnlyLaws
 pub mod WalkLaws

@@ -1,4 +1,4 @@
--- What users of a golden file rely on. Each statement is a type here; the proofs stand in proofs/ (WalkLaws, CheckedLaws, MadeLaws, BeginningLaws, KeptLaws, DemandLaws).
+-- What users of a golden file rely on. Each statement is a type here; the proofs stand in proofs/ (WalkLaws, CheckedLaws, MadeLaws, BeginningLaws, FewLaws, KeptLaws, DemandLaws).
 -- `f` and `g` are files, `n` counts records.
 use Prim.Native.Nat.{ℕ, suc, _+_, _*_, _≤_, _<_}
 use mathlib.Core.Bool.{true, false}
@@ -8,17 +8,21 @@ use denote.Ref.{RefT, now}
 use lib.ListN.{length}
 use Rattle.envelope.specs.Demand3.{DeclaresCrc, Window, SameOutside}
 use Rattle.envelope.specs.Fields.{Fields, accepted}
+use Rattle.envelope.specs.Layout.{largestMessage}
 use Rattle.envelope.specs.Promise.{Bytes}
 use Rattle.envelope.specs.Reading.{reading}
-use Rattle.golden.specs.Checking.{counted, checking}
-use Rattle.golden.specs.Comparing.{properBeginning, comparing, same, unlike, answerOf, toldComparison, Compares}
-use Rattle.golden.specs.File.{badFile, countOf, recordAt, judgedAt}
+use Rattle.golden.specs.Checking.{CheckAnswer, counted, checking}
+use Rattle.golden.specs.Checking as check
+use Rattle.golden.specs.Comparing.{properBeginning, comparing, CompareAnswer, same, different, unlike, answerOf, toldComparison, Compares}
+use Rattle.golden.specs.File.{mostRecords, badFile, countOf, recordAt, judgedAt}
 use Rattle.golden.specs.Finding.{NameFields, hasName, FindAnswer, found, finding}
 use Rattle.golden.specs.Finding as find
+use Rattle.golden.specs.Listing.{CountAnswer, counting}
+use Rattle.golden.specs.Listing as listing
 use Rattle.golden.specs.Making.{made, declined, toldMaking, Makes}
-use Rattle.golden.specs.Record.{recordSize, headSize, messageOf, good, bad}
+use Rattle.golden.specs.Record.{recordSize, headSize, longestMessage, messageOf, good, bad}
 use Rattle.golden.specs.Refusal.{Refused, plainly, passingOn}
-use Rattle.golden.specs.Stepping.{end, stepOf, toldReached}
+use Rattle.golden.specs.Stepping.{StepAnswer, end, stepOf, stepAt, nextAfter, toldReached}
 use Rattle.golden.specs.Stepping as step
 use Rattle.golden.specs.Walking.{Begins, Walks}
 use Rattle.golden.specs.declared.comparer.Comparison.{Comparison}
@@ -104,6 +108,54 @@ NeverTooShort = (f : List ℕ) (n : ℕ) → n < countOf f → judgedAt f n ≡ 
 
 abbrev pub NeverABeginning : Type 0
 NeverABeginning = (g r : List ℕ) (fg fr : Fields) → reading g ≡ accepted fg → reading r ≡ accepted fr → properBeginning g r ≡ false
+
+-- ---- how large an answer can be: no more records than a file may hold, no more places than the longest message has
+
+-- the count, or the bad record's number
+abbrev pub checkedNumber : CheckAnswer → ℕ
+checkedNumber (counted n) = n
+checkedNumber (check.refused n r) = n
+
+abbrev pub CheckNamesFew : Type 0
+CheckNamesFew = (f : List ℕ) → checkedNumber (checking f) ≤ mostRecords
+
+abbrev pub countedNumber : CountAnswer → ℕ
+countedNumber (listing.counted n) = n
+countedNumber (listing.refused r) = 0
+
+abbrev pub CountIsFew : Type 0
+CountIsFew = (f : List ℕ) → countedNumber (counting f) ≤ mostRecords
+
+-- the number of records opened, and that of the record found
+abbrev pub openedNumber : FindAnswer → ℕ
+openedNumber (found n opened) = opened
+openedNumber (find.refused r opened) = opened
+
+abbrev pub foundNumber : FindAnswer → ℕ
+foundNumber (found n opened) = n
+foundNumber (find.refused r opened) = 0
+
+abbrev pub FindOpensFew : Type 0
+FindOpensFew = (f : List ℕ) (name : NameFields) → (openedNumber (finding f name) ≤ mostRecords) × (foundNumber (finding f name) ≤ mostRecords)
+
+abbrev pub reachedSize : StepAnswer → ℕ
+reachedSize (step.message part) = part .size
+reachedSize (step.refused r) = 0
+reachedSize end = 0
+
+abbrev pub StepReachesShort : Type 0
+StepReachesShort = (f : List ℕ) (n : ℕ) → reachedSize (stepAt f n) ≤ longestMessage
+
+abbrev pub StepGoesOnByOne : Type 0
+StepGoesOnByOne = (f : List ℕ) (n : ℕ) → (n ≤ nextAfter f n) × (nextAfter f n ≤ n + 1)
+
+abbrev pub differenceTotal : CompareAnswer → ℕ
+differenceTotal same = 0
+differenceTotal (different n) = n
+differenceTotal (unlike r) = 0
+
+abbrev pub CompareTotalsFew : Type 0
+CompareTotalsFew = (f : List ℕ) (n : ℕ) (radio : List ℕ) → Bytes radio → differenceTotal (answerOf (comparing f n radio)) ≤ largestMessage
 
 -- ---- a refusal leaves what was lent as it was
 

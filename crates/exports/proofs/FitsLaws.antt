@@ -1,0 +1,102 @@
+-- Each answer fits its slots, by the sizes that the layers below promise; and the slots come back from the word.
+-- The laws of sizes are those of `envelope` and `golden`; here they are only read in slots.
+use mathlib.Core.List.{List}
+use mathlib.Core.Path.{_≡_, sym, subst}
+use Prim.Native.Nat.{ℕ, _+_, _*_, _/_, _%_, _≤_, _<_, _^_}
+use native.Mathlib.Omega.{arith}
+use Rattle.envelope.specs.Layout.{largestMessage}
+use Rattle.envelope.specs.Rewriting.{RewriteAnswer, rewrote, unread, rewriting, rewroteLength}
+use Rattle.envelope.specs.Rewriting as rewrite
+use Rattle.envelope.specs.Message.{Given}
+use Rattle.envelope.specs.Promise.{Bytes}
+use Rattle.envelope.specs.Writing.{WriteAnswer, wrote, barred, writing, wroteLength}
+use Rattle.envelope.specs.Writing as write
+use Rattle.golden.specs.Checking.{CheckAnswer, counted, refused, checking}
+use Rattle.golden.specs.Comparing.{CompareAnswer, same, different, unlike, comparing, answerOf}
+use Rattle.golden.specs.File.{mostRecords}
+use Rattle.golden.specs.Finding.{NameFields, FindAnswer, found, finding}
+use Rattle.golden.specs.Finding as find
+use Rattle.golden.specs.Listing.{CountAnswer, counting}
+use Rattle.golden.specs.Listing as listing
+use Rattle.golden.specs.Record.{longestMessage}
+use Rattle.golden.specs.Stepping.{StepAnswer, message, end, stepAt}
+use Rattle.golden.specs.Stepping as step
+use Rattle.golden.specs.Theorems.{checkedNumber, countedNumber, openedNumber, foundNumber, reachedSize, differenceTotal}
+use Rattle.envelope.proofs.RewriteLaws.{rewrites-no-longer}
+use Rattle.envelope.proofs.WriteLaws.{writes-no-longer}
+use Rattle.golden.proofs.FewLaws.{check-names-few, count-is-few, find-opens-few, step-reaches-short, compare-totals-few}
+use Rattle.exports.specs.Envelopes.{writeSlots, rewriteSlots}
+use Rattle.exports.specs.Goldens.{countSlots, checkSlots, findSlots, stepSlots, compareSlots}
+use Rattle.exports.specs.Word.{Slots, word, Fits, unword, WordTellsItsSlots}
+
+write-in : (a : WriteAnswer) → wroteLength a ≤ largestMessage → writeSlots a .value < 2 ^ 32
+write-in (wrote n) h = omega (arith, h)
+write-in (barred n) h = omega arith
+
+pub write-fits : (g : Given) (room : ℕ) (a : WriteAnswer) → a ≡ write.answerOf (writing g room) → writeSlots a .value < 2 ^ 32
+write-fits g room a e = write-in a (subst (λ (x : WriteAnswer). wroteLength x ≤ largestMessage) (sym e) (writes-no-longer g room))
+
+rewrite-in : (a : RewriteAnswer) → rewroteLength a ≤ largestMessage → rewriteSlots a .value < 2 ^ 32
+rewrite-in (rewrote n) h = omega (arith, h)
+rewrite-in (unread r) h = omega arith
+rewrite-in (rewrite.barred n) h = omega arith
+
+pub rewrite-fits : (s : List ℕ) (room : ℕ) (a : RewriteAnswer) → Bytes s → a ≡ rewriting s room → rewriteSlots a .value < 2 ^ 32
+rewrite-fits s room a bytes e =
+    rewrite-in a (subst (λ (x : RewriteAnswer). rewroteLength x ≤ largestMessage) (sym e) (rewrites-no-longer s room bytes))
+
+count-in : (a : CountAnswer) → countedNumber a ≤ mostRecords → countSlots a .count < 2 ^ 16
+count-in (listing.counted n) h = omega (arith, h)
+count-in (listing.refused r) h = omega arith
+
+pub count-fits : (f : List ℕ) (a : CountAnswer) → a ≡ counting f → countSlots a .count < 2 ^ 16
+count-fits f a e = count-in a (subst (λ (x : CountAnswer). countedNumber x ≤ mostRecords) (sym e) (count-is-few f))
+
+check-in : (a : CheckAnswer) → checkedNumber a ≤ mostRecords → checkSlots a .count < 2 ^ 16
+check-in (counted n) h = omega (arith, h)
+check-in (refused n r) h = omega (arith, h)
+
+pub check-fits : (f : List ℕ) (a : CheckAnswer) → a ≡ checking f → checkSlots a .count < 2 ^ 16
+check-fits f a e = check-in a (subst (λ (x : CheckAnswer). checkedNumber x ≤ mostRecords) (sym e) (check-names-few f))
+
+find-in : (a : FindAnswer) → (openedNumber a ≤ mostRecords) × (foundNumber a ≤ mostRecords)
+    → (findSlots a .count < 2 ^ 16) × (findSlots a .value < 2 ^ 32)
+find-in (found n opened) h = (omega (arith, h .0), omega (arith, h .1))
+find-in (find.refused r opened) h = (omega (arith, h .0), omega arith)
+
+pub find-fits : (f : List ℕ) (name : NameFields) (a : FindAnswer) → a ≡ finding f name
+    → (findSlots a .count < 2 ^ 16) × (findSlots a .value < 2 ^ 32)
+find-fits f name a e =
+    find-in a
+    (subst (λ (x : FindAnswer). (openedNumber x ≤ mostRecords) × (foundNumber x ≤ mostRecords)) (sym e) (find-opens-few f name))
+
+step-in : (a : StepAnswer) (on : ℕ) → reachedSize a ≤ longestMessage → stepSlots a on .value < 2 ^ 32
+step-in (message part) on h = omega (arith, h)
+step-in (step.refused r) on h = omega arith
+step-in end on h = omega arith
+
+pub step-fits : (f : List ℕ) (n : ℕ) (a : StepAnswer) (on : ℕ) → a ≡ stepAt f n → stepSlots a on .value < 2 ^ 32
+step-fits f n a on e = step-in a on (subst (λ (x : StepAnswer). reachedSize x ≤ longestMessage) (sym e) (step-reaches-short f n))
+
+compare-in : (a : CompareAnswer) → differenceTotal a ≤ largestMessage → compareSlots a .value < 2 ^ 32
+compare-in same h = omega arith
+compare-in (different n) h = omega (arith, h)
+compare-in (unlike r) h = omega arith
+
+pub compare-fits : (f : List ℕ) (n : ℕ) (radio : List ℕ) (a : CompareAnswer) → Bytes radio → a ≡ answerOf (comparing f n radio)
+    → compareSlots a .value < 2 ^ 32
+compare-fits f n radio a bytes e =
+    compare-in a (subst (λ (x : CompareAnswer). differenceTotal x ≤ largestMessage) (sym e) (compare-totals-few f n radio bytes))
+
+-- ---- the slots come back
+
+pub word-tells-its-slots : WordTellsItsSlots
+unfolding word
+word-tells-its-slots s fits =
+    let upper : word s / 65536 ≡ s .count + s .value * 65536 = omega (arith, fits .number, fits .reading) in
+    let lower : word s / 256 ≡ s .reading + (s .count + s .value * 65536) * 256 = omega (arith, fits .number) in
+    let number : word s % 256 ≡ s .number = omega (arith, fits .number) in
+    let reading : word s / 256 % 256 ≡ s .reading = rw lower (omega (arith, fits .reading)) in
+    let count : word s / 65536 % 65536 ≡ s .count = rw upper (omega (arith, fits .count)) in
+    let value : word s / 4294967296 ≡ s .value = omega (arith, fits .number, fits .reading, fits .count) in
+    λ i. record { number = number i; reading = reading i; count = count i; value = value i }

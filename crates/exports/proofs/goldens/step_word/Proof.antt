@@ -1,0 +1,63 @@
+-- `goldens::step_word`: one case for each answer; the message's size fits its slot.
+use mathlib.Core.Path.{subst, ap, sym, _∙_}
+use Prim.Native.Nat.{_<_, _^_}
+use borrow.Author.Needs.{needs}
+use Rattle.golden.specs.Stepping.{toldReached}
+use Rattle.golden.specs.declared.stepper.Reached.{Reached}
+use Rattle.exports.specs.Goldens.{stepSlots}
+use Rattle.exports.specs.Word.{word}
+use Rattle.exports.proofs.goldens.step_word.Statement.{statement}
+use Rattle.exports.proofs.goldens.step_word.Tie as tie
+
+enum-known-reached : tie.Need-enum-known-reached
+enum-known-reached c = search needs
+
+answer-requires : tie.Need-answer-requires
+answer-requires c κs = (c .before .before .before .pre .0, subst (λ (x : Reached). stepSlots (toldReached x) (c .before .before .before .args .on) .value < 2 ^ 32) (c .before .reached .given .1) (c .before .before .before .pre .1))
+
+enum-known-reached-2 : tie.Need-enum-known-reached-2
+enum-known-reached-2 c = search needs
+
+record-refused-requires : tie.Need-record-refused-requires
+record-refused-requires c κs = search needs
+
+enum-told : tie.Need-enum-told
+enum-told c = search needs
+
+answer-requires-2 : tie.Need-answer-requires-2
+answer-requires-2 c κs = search needs
+
+enum-told-2 : tie.Need-enum-told-2
+enum-told-2 c = search needs
+
+answer-requires-3 : tie.Need-answer-requires-3
+answer-requires-3 c κs = search needs
+
+returns : tie.Need-returns
+returns c = c .answer .ensures ∙ ap (λ (x : Reached). word (stepSlots (toldReached x) (c .before .before .before .before .args .on))) (sym (c .before .before .reached .given .1))
+
+returns-2 : tie.Need-returns-2
+returns-2 c = c .record-refused .ensures ∙ ap (λ (x : Reached). word (stepSlots (toldReached x) (c .before .before .before .before .args .on))) (sym (c .before .before .reached2 .given .1))
+
+returns-3 : tie.Need-returns-3
+returns-3 c = c .answer2 .ensures ∙ ap (λ (x : Reached). word (stepSlots (toldReached x) (c .before .before .before .args .on))) (sym (c .before .enum-told .given .1))
+
+returns-4 : tie.Need-returns-4
+returns-4 c = c .answer3 .ensures ∙ ap (λ (x : Reached). word (stepSlots (toldReached x) (c .before .before .before .args .on))) (sym (c .before .enum-told2 .given .1))
+
+pub step-word-spec : {M : Type 1} → statement M
+step-word-spec =
+    tie.close
+    (tie.spec
+    enum-known-reached
+    answer-requires
+    enum-known-reached-2
+    record-refused-requires
+    enum-told
+    answer-requires-2
+    enum-told-2
+    answer-requires-3
+    returns
+    returns-2
+    returns-3
+    returns-4)

@@ -1,0 +1,100 @@
+-- The golden file's operations as C sees them: each answer as a word, and what the lent arrays then hold.
+-- The answers themselves are those of the crate `golden`.
+use Prim.Native.Nat.{ℕ, _-_}
+use mathlib.Core.List.{List, [], _∷_}
+use mathlib.Core.Path.{_≡_}
+use lib.ListN.{length}
+use Rattle.golden.specs.Checking.{CheckAnswer, counted, refused, checking}
+use Rattle.golden.specs.Comparing.{CompareAnswer, same, different, unlike, comparing, answerOf, listAfter}
+use Rattle.golden.specs.Finding.{NameFields, FindAnswer, found, finding}
+use Rattle.golden.specs.Finding as find
+use Rattle.golden.specs.Listing.{CountAnswer, counting, EntryAnswer, line, refusedLine, entryAt}
+use Rattle.golden.specs.Listing as listing
+use Rattle.golden.specs.Making.{MakeAnswer, made, declined, making, bufferAfter}
+use Rattle.golden.specs.Stepping.{StepAnswer, message, end, stepAt, nextAfter}
+use Rattle.golden.specs.Stepping as step
+use Rattle.exports.specs.Word.{Slots, slots, word, done, sized, refusedWith}
+
+-- ---- count and check: the count is that of the records, or the bad record's number
+
+abbrev pub countSlots : CountAnswer → Slots
+countSlots (listing.counted n) = slots 0 0 n 0
+countSlots (listing.refused r) = refusedWith r 0
+
+-- what `morlewen_records` promises
+abbrev pub CountsForC : List ℕ → ℕ → Type 0
+CountsForC f r = r ≡ word (countSlots (counting f))
+
+abbrev pub checkSlots : CheckAnswer → Slots
+checkSlots (counted n) = slots 0 0 n 0
+checkSlots (refused n r) = refusedWith r n
+
+-- what `morlewen_check` promises
+abbrev pub ChecksForC : List ℕ → ℕ → Type 0
+ChecksForC f r = r ≡ word (checkSlots (checking f))
+
+-- ---- find: the count is that of the records opened, the value the record's number
+
+abbrev pub findSlots : FindAnswer → Slots
+findSlots (found n opened) = slots 0 0 opened n
+findSlots (find.refused r opened) = refusedWith r opened
+
+abbrev pub nameOf : (messageType number : ℕ) → NameFields
+nameOf messageType number = record { messageType = messageType; number = number }
+
+-- what `morlewen_find` promises
+abbrev pub FindsForC : List ℕ → NameFields → ℕ → Type 0
+FindsForC f name r = r ≡ word (findSlots (finding f name))
+
+-- ---- a line of the listing
+
+abbrev pub lineSlots : EntryAnswer → Slots
+lineSlots (line messageType number size) = done
+lineSlots (refusedLine r) = refusedWith r 0
+
+abbrev pub lineAfter : EntryAnswer → List ℕ → List ℕ
+lineAfter (line messageType number size) entry = messageType ∷ number ∷ size ∷ []
+lineAfter (refusedLine r) entry = entry
+
+-- what `morlewen_line` promises
+abbrev pub EntersForC : List ℕ → ℕ → List ℕ → ℕ → List ℕ → Type 0
+EntersForC f n entry r exit = (r ≡ word (lineSlots (entryAt f n))) × (exit ≡ lineAfter (entryAt f n) entry)
+
+-- ---- step: the count is by how many records the walk goes on, the value the message's size, 0 at the end
+
+abbrev pub stepSlots : StepAnswer → ℕ → Slots
+stepSlots (message part) on = slots 0 0 on (part .size)
+stepSlots (step.refused r) on = refusedWith r on
+stepSlots end on = slots 0 0 on 0
+
+abbrev pub partAfter : StepAnswer → List ℕ → List ℕ
+partAfter (message part) entry = part .place ∷ part .size ∷ []
+partAfter (step.refused r) entry = entry
+partAfter end entry = entry
+
+-- what `morlewen_step` promises
+abbrev pub StepsForC : List ℕ → ℕ → List ℕ → ℕ → List ℕ → Type 0
+StepsForC f n entry r exit =
+    (r ≡ word (stepSlots (stepAt f n) (nextAfter f n - n))) × (exit ≡ partAfter (stepAt f n) entry)
+
+-- ---- compare: the value is the total of differing places
+
+abbrev pub compareSlots : CompareAnswer → Slots
+compareSlots same = done
+compareSlots (different n) = sized n
+compareSlots (unlike r) = refusedWith r 0
+
+-- what `morlewen_compare` promises
+abbrev pub ComparesForC : List ℕ → ℕ → List ℕ → List ℕ → ℕ → List ℕ → Type 0
+ComparesForC f n radio entry r exit =
+    (r ≡ word (compareSlots (answerOf (comparing f n radio)))) × (exit ≡ listAfter (comparing f n radio) entry)
+
+-- ---- make
+
+abbrev pub makeSlots : MakeAnswer → Slots
+makeSlots made = done
+makeSlots (declined r) = refusedWith r 0
+
+-- what `morlewen_make` promises
+abbrev pub MakesForC : List ℕ → List ℕ → ℕ → List ℕ → Type 0
+MakesForC m entry r exit = (r ≡ word (makeSlots (making m (length entry)))) × (exit ≡ bufferAfter (making m (length entry)) m entry)

@@ -1,0 +1,15 @@
+-- The meaning of this crate's private type, which no promise of a public function cites.
+use Rattle.exports.specs.Envelopes.{EndNumbers}
+use Rattle.exports.specs.declared.envelopes.Ends.{Ends}
+
+abbrev pub toldEnds : Ends → EndNumbers
+toldEnds e =
+    record {
+      addressed = e .addressed;
+      ttl = e .ttl;
+      qos = e .qos;
+      sourcePlace = e .«source_place»;
+      sourceSize = e .«source_size»;
+      destinationPlace = e .«destination_place»;
+      destinationSize = e .«destination_size»;
+    }

@@ -1,0 +1,4 @@
+pub mod Word
+pub mod Envelopes
+pub mod Goldens
+pub mod Helpers

@@ -1,0 +1,218 @@
+// Golden files, for C. The file is only read.
+ghost use mathlib.Core.Path.{_≡_};
+ghost use Prim.Native.Nat.{_<_, _^_};
+ghost use Rattle.golden.specs.Checking.{toldChecking};
+ghost use Rattle.golden.specs.Comparing.{toldComparison};
+ghost use Rattle.golden.specs.Finding.{toldFinding};
+ghost use Rattle.golden.specs.Listing.{toldCounting, toldEntry};
+ghost use Rattle.golden.specs.Making.{toldMaking};
+ghost use Rattle.golden.specs.Stepping.{toldReached};
+ghost use Rattle.exports.specs.Goldens.{nameOf, countSlots, CountsForC, checkSlots, ChecksForC, findSlots, FindsForC, lineSlots, lineAfter, EntersForC, stepSlots, partAfter, StepsForC, compareSlots, ComparesForC, makeSlots, MakesForC};
+ghost use Rattle.exports.specs.Word.{word};
+use crate::answers::answer;
+use crate::answers::record_refused;
+use golden::Checking;
+use golden::Comparison;
+use golden::Counting;
+use golden::Entry;
+use golden::Finding;
+use golden::Making;
+use golden::Name;
+use golden::Reached;
+use golden::check;
+use golden::compare;
+use golden::count;
+use golden::entry_at;
+use golden::find;
+use golden::make;
+use golden::step;
+
+// How many numbers a line of the listing is, and a part of the file.
+pub const LINE: usize = 3;
+
+pub const PART: usize = 2;
+
+#[no_mangle]
+pub extern "C" fn morlewen_records(file: &[u8]) -> u64
+    ensures { λ r. ⌜ CountsForC (now (file .entry)) r ⌝ }
+{
+    count_word(count(file))
+}
+
+#[no_mangle]
+pub extern "C" fn morlewen_check(file: &[u8]) -> u64
+    ensures { λ r. ⌜ ChecksForC (now (file .entry)) r ⌝ }
+{
+    check_word(check(file))
+}
+
+#[no_mangle]
+pub extern "C" fn morlewen_find(file: &[u8], message_type: u16, number: u32) -> u64
+    ensures { λ r. ⌜ FindsForC (now (file .entry)) (nameOf «message_type» number) r ⌝ }
+{
+    let name = Name {
+        message_type,
+        number,
+    };
+    find_word(find(file, name))
+}
+
+#[no_mangle]
+pub extern "C" fn morlewen_line(file: &[u8], record: usize, line: &mut [u64; LINE]) -> u64
+    ensures { λ r. ⌜ EntersForC (now (file .entry)) «record» (now (line .entry)) r (now (line .exit)) ⌝ }
+{
+    let found = entry_at(file, record);
+    put_line(found, line);
+    line_word(found)
+}
+
+#[no_mangle]
+pub extern "C" fn morlewen_step(file: &[u8], record: usize, part: &mut [u64; PART]) -> u64
+    ensures { λ r. ⌜ StepsForC (now (file .entry)) «record» (now (part .entry)) r (now (part .exit)) ⌝ }
+{
+    let stepping = step(file, record);
+    let reached = stepping.answer;
+    put_part(reached, part);
+    step_word(reached, stepping.next - record)
+}
+
+#[no_mangle]
+pub extern "C" fn morlewen_compare(
+    file: &[u8],
+    record: usize,
+    radio: &[u8],
+    places: &mut [u32],
+) -> u64
+    ensures { λ r. ⌜ ComparesForC (now (file .entry)) «record» (now (radio .entry)) (now (places .entry)) r (now (places .exit)) ⌝ }
+{
+    compare_word(compare(file, record, radio, places))
+}
+
+#[no_mangle]
+pub extern "C" fn morlewen_make(message: &[u8], buffer: &mut [u8]) -> u64
+    ensures { λ r. ⌜ MakesForC (now (message .entry)) (now (buffer .entry)) r (now (buffer .exit)) ⌝ }
+{
+    make_word(make(message, buffer))
+}
+
+fn count_word(counting: Counting) -> u64
+    requires { ⌜ countSlots (toldCounting counting) .count < 2 ^ 16 ⌝ }
+    ensures { λ r. ⌜ r ≡ word (countSlots (toldCounting counting)) ⌝ }
+{
+    match counting {
+        Counting::Count(records) => answer(0, 0, records, 0),
+        Counting::NotAFile => answer(21, 0, 0, 0),
+    }
+}
+
+fn check_word(checking: Checking) -> u64
+    requires { ⌜ checkSlots (toldChecking checking) .count < 2 ^ 16 ⌝ }
+    ensures { λ r. ⌜ r ≡ word (checkSlots (toldChecking checking)) ⌝ }
+{
+    match checking {
+        Checking::Count(records) => answer(0, 0, records, 0),
+        Checking::NotAFile => answer(21, 0, 0, 0),
+        Checking::Bad { record, fault } => record_refused(fault, record),
+    }
+}
+
+fn find_word(finding: Finding) -> u64
+    requires { ⌜ (findSlots (toldFinding finding) .count < 2 ^ 16) × (findSlots (toldFinding finding) .value < 2 ^ 32) ⌝ }
+    ensures { λ r. ⌜ r ≡ word (findSlots (toldFinding finding)) ⌝ }
+{
+    match finding {
+        Finding::Found { record, opened } => answer(0, 0, opened, record),
+        Finding::Missing { opened } => answer(27, 0, opened, 0),
+        Finding::NotAFile => answer(21, 0, 0, 0),
+        Finding::Bad { fault, opened } => record_refused(fault, opened),
+    }
+}
+
+fn line_word(found: Entry) -> u64
+    ensures { λ r. ⌜ r ≡ word (lineSlots (toldEntry found)) ⌝ }
+{
+    match found {
+        Entry::Good {
+            message_type: _,
+            number: _,
+            size: _,
+        } => answer(0, 0, 0, 0),
+        Entry::Bad(fault) => record_refused(fault, 0),
+        Entry::NoRecord => answer(22, 0, 0, 0),
+        Entry::NotAFile => answer(21, 0, 0, 0),
+    }
+}
+
+fn put_line(found: Entry, line: &mut [u64; LINE])
+    ensures { λ _. ⌜ now (line .exit) ≡ lineAfter (toldEntry found) (now (line .entry)) ⌝ }
+{
+    match found {
+        Entry::Good {
+            message_type,
+            number,
+            size,
+        } => {
+            *line = [message_type as u64, number as u64, size as u64];
+        }
+        Entry::Bad(_) => {}
+        Entry::NoRecord => {}
+        Entry::NotAFile => {}
+    }
+}
+
+fn step_word(reached: Reached, on: usize) -> u64
+    requires { ⌜ (on < 2 ^ 16) × (stepSlots (toldReached reached) on .value < 2 ^ 32) ⌝ }
+    ensures { λ r. ⌜ r ≡ word (stepSlots (toldReached reached) on) ⌝ }
+{
+    match reached {
+        Reached::Message(part) => answer(0, 0, on, part.size),
+        Reached::Bad(fault) => record_refused(fault, on),
+        Reached::NotAFile => answer(21, 0, on, 0),
+        Reached::End => answer(0, 0, on, 0),
+    }
+}
+
+fn put_part(reached: Reached, part: &mut [u64; PART])
+    ensures { λ _. ⌜ now (part .exit) ≡ partAfter (toldReached reached) (now (part .entry)) ⌝ }
+{
+    match reached {
+        Reached::Message(message) => {
+            *part = [message.place as u64, message.size as u64];
+        }
+        Reached::Bad(_) => {}
+        Reached::NotAFile => {}
+        Reached::End => {}
+    }
+}
+
+fn compare_word(comparison: Comparison) -> u64
+    requires { ⌜ compareSlots (toldComparison comparison) .value < 2 ^ 32 ⌝ }
+    ensures { λ r. ⌜ r ≡ word (compareSlots (toldComparison comparison)) ⌝ }
+{
+    match comparison {
+        Comparison::Same => answer(0, 0, 0, 0),
+        Comparison::Different(total) => answer(0, 0, 0, total),
+        Comparison::NotAFile => answer(21, 0, 0, 0),
+        Comparison::NoRecord => answer(22, 0, 0, 0),
+        Comparison::Bad(fault) => record_refused(fault, 0),
+        Comparison::RadioUnread(refusal) => {
+            let fault = refusal.fault;
+            answer(31, fault.number(), 0, 0)
+        }
+        Comparison::Beginning => answer(32, 0, 0, 0),
+    }
+}
+
+fn make_word(making: Making) -> u64
+    ensures { λ r. ⌜ r ≡ word (makeSlots (toldMaking making)) ⌝ }
+{
+    match making {
+        Making::Made => answer(0, 0, 0, 0),
+        Making::TooLong => answer(33, 0, 0, 0),
+        Making::Unread(refusal) => {
+            let fault = refusal.fault;
+            answer(34, fault.number(), 0, 0)
+        }
+        Making::WrongBuffer => answer(35, 0, 0, 0),
+    }
+}

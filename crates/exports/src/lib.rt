@@ -1,0 +1,7 @@
+// The public operations of the three layers, in numbers and slices, for programs in C and Rust (include/morlewen.h).
+// Rests on the crates `sum`, `envelope` and `golden`, by their promises and the laws that they export.
+mod answers;
+pub mod envelopes;
+pub mod goldens;
+pub mod routing;
+pub mod sums;

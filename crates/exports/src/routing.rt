@@ -1,0 +1,138 @@
+// What an envelope's numbers tell, for C: QoS, lateness and sequence.
+ghost use mathlib.Core.Path.{_≡_};
+ghost use Rattle.envelope.specs.Lateness.{toldLateness};
+ghost use Rattle.envelope.specs.Qos.{toldJoining};
+ghost use Rattle.envelope.specs.Sequence.{Distance, toldSequence};
+ghost use Rattle.envelope.specs.Told.{toldAddressing};
+ghost use Rattle.exports.specs.Envelopes.{SplitsForC, qosOf, joinSlots, JoinsForC, latenessNumber, addressingFor, JudgesLatenessForC, sequenceSlots, JudgesSequenceForC};
+ghost use Rattle.exports.specs.Word.{word};
+use crate::answers::answer;
+use envelope::Addressing;
+use envelope::Envelope;
+use envelope::Header;
+use envelope::Integrity;
+use envelope::Part;
+use envelope::lateness;
+use envelope::lateness::Lateness;
+use envelope::qos;
+use envelope::qos::Joining;
+use envelope::qos::Qos;
+use envelope::sequence;
+use envelope::sequence::Sequence;
+
+// How many numbers a QoS field is.
+pub const QOS_PARTS: usize = 5;
+
+#[no_mangle]
+pub extern "C" fn morlewen_qos_split(field: u16, parts: &mut [u8; QOS_PARTS])
+    ensures { λ _. ⌜ SplitsForC field (now (parts .exit)) ⌝ }
+{
+    let split = qos::split(field);
+    *parts = [
+        split.service_request,
+        split.special_handling,
+        split.network_preference,
+        split.priority,
+        split.class,
+    ];
+}
+
+#[no_mangle]
+pub extern "C" fn morlewen_qos_join(
+    service_request: u8,
+    special_handling: u8,
+    network_preference: u8,
+    priority: u8,
+    class: u8,
+) -> u64
+    ensures { λ r. ⌜ JoinsForC (qosOf «service_request» «special_handling» «network_preference» priority class) r ⌝ }
+{
+    join_word(qos::join(Qos {
+        service_request,
+        special_handling,
+        network_preference,
+        priority,
+        class,
+    }))
+}
+
+#[no_mangle]
+pub extern "C" fn morlewen_lateness(flags: u8, time: u32, addressed: u8, ttl: u16, clock: u64) -> u8
+    ensures { λ r. ⌜ JudgesLatenessForC flags time addressed ttl clock r ⌝ }
+{
+    let header = Header {
+        message_type: 0,
+        version: 0,
+        flags,
+        number: 0,
+        time,
+    };
+    let addressing = addressing_of(addressed, ttl);
+    let judged = Envelope::new(header, addressing, nowhere(), Integrity::None);
+    lateness_number(lateness::judge(judged, clock))
+}
+
+#[no_mangle]
+pub extern "C" fn morlewen_distance(old: u32, new: u32) -> i32
+    ensures { λ r. ⌜ Distance old new r ⌝ }
+{
+    sequence::distance(old, new)
+}
+
+#[no_mangle]
+pub extern "C" fn morlewen_sequence(old: u32, new: u32) -> u64
+    ensures { λ r. ⌜ JudgesSequenceForC old new r ⌝ }
+{
+    sequence_word(sequence::judge(old, new))
+}
+
+fn join_word(joining: Joining) -> u64
+    ensures { λ r. ⌜ r ≡ word (joinSlots (toldJoining joining)) ⌝ }
+{
+    match joining {
+        Joining::Joined(field) => answer(0, 0, 0, field as usize),
+        Joining::DoesNotFit => answer(41, 0, 0, 0),
+    }
+}
+
+// Only the TTL matters to lateness.
+fn addressing_of(addressed: u8, ttl: u16) -> Addressing
+    ensures { λ r. ⌜ toldAddressing r ≡ addressingFor addressed ttl ⌝ }
+{
+    if addressed == 0 {
+        return Addressing::Absent;
+    }
+    Addressing::Present {
+        ttl,
+        qos: 0,
+        source: nowhere(),
+        destination: nowhere(),
+    }
+}
+
+fn nowhere() -> Part
+    ensures { λ r. ⌜ r ≡ record { place = 0; size = 0 } ⌝ }
+{
+    Part { place: 0, size: 0 }
+}
+
+fn lateness_number(lateness: Lateness) -> u8
+    ensures { λ r. ⌜ r ≡ latenessNumber (toldLateness lateness) ⌝ }
+{
+    match lateness {
+        Lateness::InTime => 0,
+        Lateness::Late => 1,
+        Lateness::NoClock => 2,
+    }
+}
+
+fn sequence_word(sequence: Sequence) -> u64
+    ensures { λ r. ⌜ r ≡ word (sequenceSlots (toldSequence sequence)) ⌝ }
+{
+    match sequence {
+        Sequence::Repeat => answer(0, 0, 0, 0),
+        Sequence::Next => answer(0, 0, 1, 1),
+        Sequence::Ahead(steps) => answer(0, 0, 2, steps as usize),
+        Sequence::Behind(steps) => answer(0, 0, 3, steps as usize),
+    }
+}

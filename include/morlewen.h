@@ -1,0 +1,198 @@
+/* Morlewen: EMP envelopes (AAR S-9354) and golden files of reference messages, for C and C++.
+ *
+ * Link libexports.a (README.md says how it is built). Each function is proved to give the one answer told here, for any
+ * input, and to end; none allocates, prints, keeps state or touches a file, so all may be called from several threads.
+ *
+ * What the caller owes, since C cannot check it:
+ *   - a pointer and the length behind it describe memory that is yours to read (const) or to write, and that nothing
+ *     else writes during the call; a pointer is never NULL, also where the length is 0;
+ *   - what is lent to be written overlaps nothing else that is lent in the same call.
+ * Any content, any length and any number is fine.
+ *
+ * THE ANSWER. Where a function can refuse, it returns one 64-bit number of four slots:
+ *
+ *   bits  0-7   number    0: done. Otherwise the refusal, by the numbers below.
+ *   bits  8-15  reading   with 25, 31 and 34 the number (1-7) that reading gave; otherwise 0.
+ *   bits 16-31  count     a number of records, where a function says so; otherwise 0.
+ *   bits 32-63  value     done: a length or a total, where a function says so; otherwise 0.
+ *                         refused: kept for a place in the message; 0 in this version.
+ *
+ * A refusal writes nothing: every buffer, array and list that was lent holds what it held before the call. */
+#ifndef MORLEWEN_H
+#define MORLEWEN_H
+
+#include <stddef.h>
+#include <stdint.h>
+
+#ifdef __cplusplus
+extern "C" {
+#endif
+
+static inline unsigned morlewen_number(uint64_t answer) { return (unsigned)(answer & 0xff); }
+static inline unsigned morlewen_reading(uint64_t answer) { return (unsigned)(answer >> 8 & 0xff); }
+static inline unsigned morlewen_count(uint64_t answer) { return (unsigned)(answer >> 16 & 0xffff); }
+static inline uint32_t morlewen_value(uint64_t answer) { return (uint32_t)(answer >> 32); }
+
+/* The refusals. Where several apply, the one that stands first here is given. */
+enum {
+    MORLEWEN_DONE = 0,
+    /* reading a message */
+    MORLEWEN_TOO_SHORT = 1,         /* fewer than 21 bytes */
+    MORLEWEN_WRONG_VERSION = 2,     /* the header version is not 4 */
+    MORLEWEN_BAD_FLAGS = 3,         /* an unassigned flag is set, or the integrity kind is 3 */
+    MORLEWEN_BAD_VARIABLE_SIZE = 4, /* the variable header's size is 1 to 5, or above 132 */
+    MORLEWEN_WRONG_LENGTH = 5,      /* the sizes in the header do not add up to the length lent */
+    MORLEWEN_BAD_ADDRESSES = 6,     /* source and destination do not fill their room, each with one closing zero, in 64 bytes */
+    MORLEWEN_BAD_INTEGRITY = 7,     /* kind none and the field is not 0, or kind CRC and it is not the CRC */
+    /* writing a message */
+    MORLEWEN_FLAGS_REFUSED = 11,    /* the flags would be refused as 3 */
+    MORLEWEN_ENDS_REFUSED = 12,     /* an address over 63 bytes or with a zero in it, or one given where addressing is absent */
+    MORLEWEN_BODY_TOO_LONG = 13,    /* the body is over 16,777,215 bytes */
+    MORLEWEN_STRAY_INTEGRITY = 14,  /* an integrity number that is not 0, of kind none or CRC */
+    MORLEWEN_NO_ROOM = 15,          /* the buffer is shorter than the message */
+    /* golden files and their records */
+    MORLEWEN_NOT_A_FILE = 21,       /* the length is no multiple of 512, or above 65,536 */
+    MORLEWEN_NO_RECORD = 22,        /* the record asked for is not there */
+    MORLEWEN_BAD_LENGTH = 23,       /* the stored length is below 21 or above 510 */
+    MORLEWEN_NOT_CLEAR = 24,        /* a byte after the message is not zero */
+    MORLEWEN_RECORD_UNREAD = 25,    /* reading refuses the record's message; the slot `reading` says why */
+    MORLEWEN_NOT_FOUND = 27,        /* every record is good, and none has that type and number */
+    MORLEWEN_RADIO_UNREAD = 31,     /* reading refuses the radio's message; the slot `reading` says why */
+    MORLEWEN_BEGINNING = 32,        /* one of the two messages is a proper beginning of the other */
+    MORLEWEN_MESSAGE_TOO_LONG = 33, /* a message for a record is over 510 bytes */
+    MORLEWEN_MESSAGE_UNREAD = 34,   /* reading refuses that message; the slot `reading` says why */
+    MORLEWEN_WRONG_BUFFER = 35,     /* the buffer for a record is not 512 bytes */
+    /* QoS */
+    MORLEWEN_QOS_DOES_NOT_FIT = 41  /* one of the five numbers does not fit its bits */
+};
+
+enum {
+    MORLEWEN_RECORD_SIZE = 512,
+    MORLEWEN_LONGEST_FILE = 65536,
+    MORLEWEN_LONGEST_MESSAGE_IN_A_RECORD = 510
+};
+
+/* ---- The integrity sum ---- */
+
+/* The CRC-32 of the bytes: reflected polynomial EDB88320, start all ones, final inversion. Of no bytes it is 0. */
+uint32_t morlewen_crc(const uint8_t *bytes, size_t length);
+
+/* ---- Envelopes ---- */
+
+/* Where morlewen_read puts each field. An end is given without its closing zero. Where there is no variable header, the
+ * seven numbers from MORLEWEN_ADDRESSED to MORLEWEN_DESTINATION_SIZE are 0. Places count from the message's first byte. */
+enum {
+    MORLEWEN_TYPE = 0,
+    MORLEWEN_VERSION = 1, /* the message version; the header version is always 4 */
+    MORLEWEN_FLAGS = 2,
+    MORLEWEN_NUMBER = 3,
+    MORLEWEN_TIME = 4,
+    MORLEWEN_ADDRESSED = 5, /* 1: there is a variable header; 0: there is none */
+    MORLEWEN_TTL = 6,
+    MORLEWEN_QOS = 7,
+    MORLEWEN_SOURCE_PLACE = 8,
+    MORLEWEN_SOURCE_SIZE = 9,
+    MORLEWEN_DESTINATION_PLACE = 10,
+    MORLEWEN_DESTINATION_SIZE = 11,
+    MORLEWEN_BODY_PLACE = 12,
+    MORLEWEN_BODY_SIZE = 13,
+    MORLEWEN_KIND = 14,      /* the integrity kind, MORLEWEN_KIND_NONE and so on */
+    MORLEWEN_INTEGRITY = 15, /* the integrity field's number */
+    MORLEWEN_FIELDS = 16
+};
+
+enum { MORLEWEN_KIND_NONE = 0, MORLEWEN_KIND_CRC = 1, MORLEWEN_KIND_APPLICATION = 2 };
+
+/* Reads a message. Done: every one of the sixteen fields is written. Refused: 1 to 7. */
+uint64_t morlewen_read(const uint8_t *bytes, size_t length, uint64_t fields[MORLEWEN_FIELDS]);
+
+/* Writes a message to the front of the buffer. The flags alone set the integrity kind; `addressed` is 0 for no variable
+ * header and anything else for one with this TTL and QoS (which do not matter at 0); the ends are given without their closing
+ * zero; `integrity` is the number of an application's own kind and 0 for the other two.
+ * Done: `value` is the message's length, and the buffer beyond it is untouched. Refused: 11 to 15. */
+uint64_t morlewen_write(uint16_t type, uint8_t version, uint8_t flags, uint32_t number, uint32_t time,
+                        uint8_t addressed, uint16_t ttl, uint16_t qos,
+                        const uint8_t *source, size_t source_length,
+                        const uint8_t *destination, size_t destination_length,
+                        const uint8_t *body, size_t body_length,
+                        uint32_t integrity, uint8_t *buffer, size_t room);
+
+/* Reads a message and writes it again from its fields: the same bytes at the front of the buffer.
+ * Done: `value` is the length, and the buffer beyond it is untouched. Refused: 1 to 7, or 15. */
+uint64_t morlewen_rewrite(const uint8_t *bytes, size_t length, uint8_t *buffer, size_t room);
+
+/* The five numbers of a QoS field: service request (0-7), special handling (0-15), network preference, priority and
+ * class (each 0-7). */
+enum {
+    MORLEWEN_SERVICE_REQUEST = 0,
+    MORLEWEN_SPECIAL_HANDLING = 1,
+    MORLEWEN_NETWORK_PREFERENCE = 2,
+    MORLEWEN_PRIORITY = 3,
+    MORLEWEN_CLASS = 4,
+    MORLEWEN_QOS_PARTS = 5
+};
+
+/* Splits a QoS field. Any field can be split. */
+void morlewen_qos_split(uint16_t qos, uint8_t parts[MORLEWEN_QOS_PARTS]);
+
+/* Joins a QoS field. Done: `value` is the field. Refused: 41. */
+uint64_t morlewen_qos_join(uint8_t service_request, uint8_t special_handling, uint8_t network_preference,
+                           uint8_t priority, uint8_t message_class);
+
+enum { MORLEWEN_IN_TIME = 0, MORLEWEN_LATE = 1, MORLEWEN_NO_CLOCK = 2 };
+
+/* Whether a message is late at a clock in seconds, from its fields as morlewen_read gives them: late if the clock is past
+ * time + TTL; no answer (MORLEWEN_NO_CLOCK) if the time is 0 or relative, or `addressed` is 0. */
+uint8_t morlewen_lateness(uint8_t flags, uint32_t time, uint8_t addressed, uint16_t ttl, uint64_t clock);
+
+/* From an old message number to a new one: new minus old, as a signed number. The numbers run round. */
+int32_t morlewen_distance(uint32_t old_number, uint32_t new_number);
+
+enum { MORLEWEN_REPEAT = 0, MORLEWEN_NEXT = 1, MORLEWEN_AHEAD = 2, MORLEWEN_BEHIND = 3 };
+
+/* The same in words. `count` is one of the four above; `value` is by how many numbers (0 for a repeat, 1 for the next).
+ * Never refused. */
+uint64_t morlewen_sequence(uint32_t old_number, uint32_t new_number);
+
+/* ---- Golden files ----
+ * `file` is the whole file in memory. It is only ever read. Records count from 0. */
+
+/* How many records there are, good or bad. Done: `count`. Refused: 21. */
+uint64_t morlewen_records(const uint8_t *file, size_t length);
+
+/* Checks every record. Done: all are good, and `count` is how many. Refused: 21 or 23 to 25 for the first bad record,
+ * whose number is in `count` (0 with 21). */
+uint64_t morlewen_check(const uint8_t *file, size_t length);
+
+/* Opens records from the first, until one is bad or has this type and message number. `count` is how many were opened,
+ * whatever the answer. Done: the record found is the last one opened, and its number is in `value`.
+ * Refused: 21, 23 to 25 for the bad record, or 27. */
+uint64_t morlewen_find(const uint8_t *file, size_t length, uint16_t type, uint32_t number);
+
+enum { MORLEWEN_LINE_TYPE = 0, MORLEWEN_LINE_NUMBER = 1, MORLEWEN_LINE_SIZE = 2, MORLEWEN_LINE = 3 };
+
+/* One record as a listing shows it: its message's type, number and length, into `line`. Refused: 21 to 25. */
+uint64_t morlewen_line(const uint8_t *file, size_t length, size_t record, uint64_t line[MORLEWEN_LINE]);
+
+enum { MORLEWEN_PART_PLACE = 0, MORLEWEN_PART_SIZE = 1, MORLEWEN_PART = 2 };
+
+/* One step of a walk over the file. The caller keeps the number of the next record, from 0 on, and adds `count` to it after
+ * each step: 1, also where this record is refused, or 0 at the end and with 21, where a walk stays.
+ * Done: `value` is the size of the message, and `part` its first place in the file and its size; or `value` is 0: the
+ * end, and `part` is as it was. Refused: 21, 23 to 25. */
+uint64_t morlewen_step(const uint8_t *file, size_t length, size_t record, uint64_t part[MORLEWEN_PART]);
+
+/* Compares one record with a radio's message. Done: `value` is how many places differ, 0 where the two are the same; a place
+ * that only the longer has differs. The places go into `places`, ascending, as far as it has room; the rest of it is
+ * untouched. Refused: 21 to 25, 31, 32. */
+uint64_t morlewen_compare(const uint8_t *file, size_t length, size_t record, const uint8_t *radio, size_t radio_length,
+                          uint32_t *places, size_t room);
+
+/* Makes a record of a message: 512 bytes into the buffer. Refused: 33 to 35. */
+uint64_t morlewen_make(const uint8_t *message, size_t length, uint8_t *buffer, size_t room);
+
+#ifdef __cplusplus
+}
+#endif
+
+#endif
