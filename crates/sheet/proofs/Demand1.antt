@@ -9,7 +9,7 @@ use Rattle.envelope.specs.Lateness.{JudgesLateness}
 use Rattle.envelope.specs.Message.{Given}
 use Rattle.envelope.specs.Numbers.{TwoBytes, ThreeBytes, FourBytes}
 use Rattle.envelope.specs.Promise.{Only₂}
-use Rattle.envelope.specs.Qos.{Splits, Joins}
+use Rattle.envelope.specs.Qos.{QosFields, Splits, Joins}
 use Rattle.envelope.specs.Rewriting.{Rewrites}
 use Rattle.envelope.specs.Sequence.{Distance, JudgesSequence}
 use Rattle.envelope.specs.Told.{NumbersFault, Slices, Reads, Holds}
@@ -26,7 +26,7 @@ use Rattle.envelope.proofs.OnlyLaws as only
 use Rattle.envelope.proofs.WriteLaws.{refusal-writes-nothing}
 use Rattle.golden.specs.Checking.{Checks}
 use Rattle.golden.specs.Comparing.{Compares}
-use Rattle.golden.specs.Finding.{Finds}
+use Rattle.golden.specs.Finding.{NameFields, Finds}
 use Rattle.golden.specs.Listing.{Counts, Enters}
 use Rattle.golden.specs.Making.{Makes}
 use Rattle.golden.specs.Refusal.{NumbersRecordFault}
@@ -38,6 +38,11 @@ use Rattle.golden.specs.declared.record.RecordFault.{RecordFault}
 use Rattle.golden.specs.declared.walker.Walk.{Walk}
 use Rattle.golden.proofs.OnlyLaws as golden
 use Rattle.golden.proofs.KeptLaws.{refused-comparison-keeps-list, refused-making-keeps-buffer}
+use Rattle.exports.specs.Envelopes.{ReadsForC, WritesForC, RewritesForC, SplitsForC, JoinsForC, JudgesLatenessForC, JudgesSequenceForC}
+use Rattle.exports.specs.Goldens.{CountsForC, ChecksForC, FindsForC, EntersForC, StepsForC, ComparesForC, MakesForC}
+use Rattle.exports.specs.Word.{WordTellsItsSlots}
+use Rattle.exports.proofs.FitsLaws.{word-tells-its-slots}
+use Rattle.exports.proofs.OnlyLaws as exports
 
 pub crc-has-one-answer : (bytes : List ℕ) → Only₁ (Sums bytes)
 crc-has-one-answer = only-sums
@@ -119,6 +124,54 @@ make-has-one-outcome = golden.only-makes
 
 pub record-fault-numbers-have-one-answer : (f : RecordFault) → Only₁ (NumbersRecordFault f)
 record-fault-numbers-have-one-answer = golden.only-numbers-record-fault
+
+-- ---- the C interface; `morlewen_crc` and `morlewen_distance` promise what `crc` and `distance` do
+
+pub read-for-c-has-one-outcome : (bytes entry : List ℕ) → Only₂ (ReadsForC bytes entry)
+read-for-c-has-one-outcome = exports.only-reads-for-c
+
+pub write-for-c-has-one-outcome : (g : Given) (entry : List ℕ) → Only₂ (WritesForC g entry)
+write-for-c-has-one-outcome = exports.only-writes-for-c
+
+pub rewrite-for-c-has-one-outcome : (bytes entry : List ℕ) → Only₂ (RewritesForC bytes entry)
+rewrite-for-c-has-one-outcome = exports.only-rewrites-for-c
+
+pub split-for-c-has-one-content : (q : ℕ) → Only₁ (SplitsForC q)
+split-for-c-has-one-content = exports.only-splits-for-c
+
+pub join-for-c-has-one-answer : (f : QosFields) → Only₁ (JoinsForC f)
+join-for-c-has-one-answer = exports.only-joins-for-c
+
+pub lateness-for-c-has-one-answer : (flags time present ttl clock : ℕ) → Only₁ (JudgesLatenessForC flags time present ttl clock)
+lateness-for-c-has-one-answer = exports.only-judges-lateness-for-c
+
+pub sequence-for-c-has-one-answer : (old new : ℕ) → Only₁ (JudgesSequenceForC old new)
+sequence-for-c-has-one-answer = exports.only-judges-sequence-for-c
+
+pub count-for-c-has-one-answer : (f : List ℕ) → Only₁ (CountsForC f)
+count-for-c-has-one-answer = exports.only-counts-for-c
+
+pub check-for-c-has-one-answer : (f : List ℕ) → Only₁ (ChecksForC f)
+check-for-c-has-one-answer = exports.only-checks-for-c
+
+pub find-for-c-has-one-answer : (f : List ℕ) (name : NameFields) → Only₁ (FindsForC f name)
+find-for-c-has-one-answer = exports.only-finds-for-c
+
+pub line-for-c-has-one-outcome : (f : List ℕ) (n : ℕ) (entry : List ℕ) → Only₂ (EntersForC f n entry)
+line-for-c-has-one-outcome = exports.only-enters-for-c
+
+pub step-for-c-has-one-outcome : (f : List ℕ) (n : ℕ) (entry : List ℕ) → Only₂ (StepsForC f n entry)
+step-for-c-has-one-outcome = exports.only-steps-for-c
+
+pub compare-for-c-has-one-outcome : (f : List ℕ) (n : ℕ) (radio entry : List ℕ) → Only₂ (ComparesForC f n radio entry)
+compare-for-c-has-one-outcome = exports.only-compares-for-c
+
+pub make-for-c-has-one-outcome : (m entry : List ℕ) → Only₂ (MakesForC m entry)
+make-for-c-has-one-outcome = exports.only-makes-for-c
+
+-- nothing is lost in an answer's word: the four slots come back
+pub a-word-tells-its-slots : WordTellsItsSlots
+a-word-tells-its-slots = word-tells-its-slots
 
 -- ---- a refusal leaves what was lent as it was
 

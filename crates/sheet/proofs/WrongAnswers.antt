@@ -63,10 +63,10 @@ read-gives-the-first-rule kept = apart 2 1 tt (refusal-number 2 1 (kept ∙ star
 
 -- ---- write: nothing touched; a byte past the message touched
 
-abbrev givenM : Given
+abbrev pub givenM : Given
 givenM = givenBy M (likeM absent 17 0)
 
-writes-M : writing givenM 21 ≡ written M
+pub writes-M : writing givenM 21 ≡ written M
 unfolding writing message beforeField fieldNumber badFlags badEnd hasZero strayIntegrity
 writes-M = refl
 

@@ -1,0 +1,59 @@
+-- One answer alone keeps each promise of the C interface, and one later content of what is lent.
+-- Each promise says outright what the two are.
+use mathlib.Core.List.{List}
+use mathlib.Core.Path.{_≡_, sym, _∙_}
+use Prim.Native.Nat.{ℕ}
+use Rattle.envelope.specs.Message.{Given}
+use Rattle.envelope.specs.Promise.{Only₁, Only₂}
+use Rattle.envelope.specs.Qos.{QosFields}
+use Rattle.golden.specs.Finding.{NameFields}
+use Rattle.exports.specs.Envelopes.{ReadsForC, WritesForC, RewritesForC, SplitsForC, JoinsForC, JudgesLatenessForC, JudgesSequenceForC}
+use Rattle.exports.specs.Goldens.{CountsForC, ChecksForC, FindsForC, EntersForC, StepsForC, ComparesForC, MakesForC}
+
+only-that : {A : Type 0} (x : A) → Only₁ (λ (r : A). r ≡ x)
+only-that x a b p q = p ∙ sym q
+
+only-those : {A B : Type 0} (x : A) (y : B) → Only₂ (λ (r : A) (exit : B). (r ≡ x) × (exit ≡ y))
+only-those x y a b s t p q = (p .0 ∙ sym (q .0), p .1 ∙ sym (q .1))
+
+pub only-reads-for-c : (bytes entry : List ℕ) → Only₂ (ReadsForC bytes entry)
+only-reads-for-c bytes entry = only-those _ _
+
+pub only-writes-for-c : (g : Given) (entry : List ℕ) → Only₂ (WritesForC g entry)
+only-writes-for-c g entry = only-those _ _
+
+pub only-rewrites-for-c : (bytes entry : List ℕ) → Only₂ (RewritesForC bytes entry)
+only-rewrites-for-c bytes entry = only-those _ _
+
+pub only-splits-for-c : (q : ℕ) → Only₁ (SplitsForC q)
+only-splits-for-c q = only-that _
+
+pub only-joins-for-c : (f : QosFields) → Only₁ (JoinsForC f)
+only-joins-for-c f = only-that _
+
+pub only-judges-lateness-for-c : (flags time present ttl clock : ℕ) → Only₁ (JudgesLatenessForC flags time present ttl clock)
+only-judges-lateness-for-c flags time present ttl clock = only-that _
+
+pub only-judges-sequence-for-c : (old new : ℕ) → Only₁ (JudgesSequenceForC old new)
+only-judges-sequence-for-c old new = only-that _
+
+pub only-counts-for-c : (f : List ℕ) → Only₁ (CountsForC f)
+only-counts-for-c f = only-that _
+
+pub only-checks-for-c : (f : List ℕ) → Only₁ (ChecksForC f)
+only-checks-for-c f = only-that _
+
+pub only-finds-for-c : (f : List ℕ) (name : NameFields) → Only₁ (FindsForC f name)
+only-finds-for-c f name = only-that _
+
+pub only-enters-for-c : (f : List ℕ) (n : ℕ) (entry : List ℕ) → Only₂ (EntersForC f n entry)
+only-enters-for-c f n entry = only-those _ _
+
+pub only-steps-for-c : (f : List ℕ) (n : ℕ) (entry : List ℕ) → Only₂ (StepsForC f n entry)
+only-steps-for-c f n entry = only-those _ _
+
+pub only-compares-for-c : (f : List ℕ) (n : ℕ) (radio entry : List ℕ) → Only₂ (ComparesForC f n radio entry)
+only-compares-for-c f n radio entry = only-those _ _
+
+pub only-makes-for-c : (m entry : List ℕ) → Only₂ (MakesForC m entry)
+only-makes-for-c m entry = only-those _ _

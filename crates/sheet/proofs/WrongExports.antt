@@ -1,0 +1,166 @@
+-- For each promise of the C interface two answers that a careless program would give, each refuted by computing.
+-- `morlewen_crc` and `morlewen_distance` promise what `crc` and `distance` do; their wrong answers stand in WrongAnswers.
+use mathlib.Core.List.{List, [], _∷_}
+use mathlib.Core.Path.{_≡_, ap, sym, _∙_}
+use Prim.Native.Nat.{ℕ, _+_, _*_}
+use native.Mathlib.Omega.{arith}
+use lib.ListN.{length, take, getD, replicate}
+use Rattle.envelope.specs.Fields.{Answer, absent}
+use Rattle.envelope.specs.Lateness.{latenessOf}
+use Rattle.envelope.specs.Qos.{splitting, joining}
+use Rattle.envelope.specs.Sequence.{stepsOn}
+use Rattle.envelope.specs.Writing.{Outcome, answerOf, bufferAfter}
+use Rattle.golden.specs.Checking.{CheckAnswer, checking}
+use Rattle.golden.specs.Comparing.{comparing, listAfter}
+use Rattle.golden.specs.Comparing as compare
+use Rattle.golden.specs.File.{badFile}
+use Rattle.golden.specs.Finding.{findFrom, finding}
+use Rattle.golden.specs.Listing.{counting, entryAt}
+use Rattle.golden.specs.Making.{making, recordOf}
+use Rattle.golden.specs.Stepping.{stepAt, nextAfter}
+use Rattle.golden.proofs.MadeLaws.{checks}
+use Rattle.exports.specs.Envelopes.{readSlots, fieldsAfter, ReadsForC, writeSlots, WritesForC, RewritesForC, qosOf, SplitsForC, JoinsForC, JudgesLatenessForC, JudgesSequenceForC}
+use Rattle.exports.specs.Goldens.{CountsForC, checkSlots, ChecksForC, nameOf, FindsForC, EntersForC, StepsForC, ComparesForC, MakesForC}
+use Rattle.exports.specs.Word.{slots, word}
+use Rattle.sheet.specs.Cases.{M, likeM}
+use Rattle.sheet.proofs.Apart.{apart}
+use Rattle.sheet.proofs.Cases.{starred}
+use Rattle.sheet.proofs.WrongAnswers.{givenM, writes-M}
+
+-- ---- read: all turned away; fields written on a refusal
+
+pub read-for-c-does-not-turn-all-away : (entry exit : List ℕ) → ReadsForC M entry 1 exit → ⊥
+unfolding word
+read-for-c-does-not-turn-all-away entry exit kept =
+    apart 1 0 tt (kept .0 ∙ ap (λ (a : Answer). word (readSlots a)) (starred .a .0))
+
+pub read-for-c-keeps-the-fields-on-a-refusal : ReadsForC (take 20 M) (9 ∷ []) 1 (0 ∷ []) → ⊥
+read-for-c-keeps-the-fields-on-a-refusal kept =
+    apart 0 9 tt (ap (λ (s : List ℕ). getD s 0 0) (kept .1 ∙ ap (λ (a : Answer). fieldsAfter a (9 ∷ [])) (starred .b)))
+
+-- ---- write: nothing touched; done with no length
+
+pub write-for-c-does-not-touch-nothing : (r : ℕ) → WritesForC givenM (replicate 21 0) r (replicate 21 0) → ⊥
+write-for-c-does-not-touch-nothing r kept =
+    apart 0 4 tt (ap (λ (s : List ℕ). getD s 0 0) (kept .1 ∙ ap (λ (o : Outcome). bufferAfter o (replicate 21 0)) writes-M))
+
+pub write-for-c-tells-the-length : (exit : List ℕ) → WritesForC givenM (replicate 21 0) 0 exit → ⊥
+unfolding word
+write-for-c-tells-the-length exit kept =
+    apart 0 (21 * 4294967296) tt (kept .0 ∙ ap (λ (o : Outcome). word (writeSlots (answerOf o))) writes-M)
+
+-- ---- rewrite: nothing touched; what reading refuses
+
+pub rewrite-for-c-does-not-touch-nothing : (r : ℕ) → RewritesForC M (replicate 21 0) r (replicate 21 0) → ⊥
+rewrite-for-c-does-not-touch-nothing r kept =
+    apart 0 4 tt (ap (λ (s : List ℕ). getD s 0 0) (rw (starred .a .0) at (kept .1)))
+
+pub rewrite-for-c-refuses-what-read-refuses : (exit : List ℕ) → RewritesForC (take 20 M) (replicate 21 0) 0 exit → ⊥
+unfolding word
+rewrite-for-c-refuses-what-read-refuses exit kept = apart 0 1 tt (rw (starred .b) at (kept .0))
+
+-- ---- QoS: nothing written; the priority as the class; a number that does not fit; 41 for all
+
+pub split-for-c-does-not-touch-nothing : SplitsForC 8 (0 ∷ 0 ∷ 0 ∷ 0 ∷ 0 ∷ []) → ⊥
+unfolding splitting
+split-for-c-does-not-touch-nothing kept = apart 0 1 tt (ap (λ (s : List ℕ). getD s 3 0) kept)
+
+pub split-for-c-tells-priority-from-class : SplitsForC 8 (0 ∷ 0 ∷ 0 ∷ 0 ∷ 1 ∷ []) → ⊥
+unfolding splitting
+split-for-c-tells-priority-from-class kept = apart 1 0 tt (ap (λ (s : List ℕ). getD s 4 0) kept)
+
+pub join-for-c-refuses-what-does-not-fit : JoinsForC (qosOf 8 0 0 0 0) 0 → ⊥
+unfolding joining word
+join-for-c-refuses-what-does-not-fit kept = apart 0 41 tt kept
+
+pub join-for-c-does-not-refuse-all : JoinsForC (qosOf 0 0 0 1 0) 41 → ⊥
+unfolding joining word
+join-for-c-does-not-refuse-all kept = apart 41 (8 * 4294967296) tt kept
+
+-- ---- lateness and sequence: never late; a clock that is not there; a repeat for the next; ahead for behind
+
+pub lateness-for-c-tells-late : JudgesLatenessForC 1 100 1 10 111 0 → ⊥
+unfolding latenessOf
+lateness-for-c-tells-late kept = apart 0 1 tt kept
+
+pub lateness-for-c-needs-a-variable-header : JudgesLatenessForC 1 100 0 10 0 0 → ⊥
+unfolding latenessOf
+lateness-for-c-needs-a-variable-header kept = apart 0 2 tt kept
+
+pub sequence-for-c-tells-the-next : JudgesSequenceForC 4294967295 0 0 → ⊥
+unfolding stepsOn word
+sequence-for-c-tells-the-next kept = apart 0 (65536 + 4294967296) tt kept
+
+pub sequence-for-c-tells-behind-from-ahead : JudgesSequenceForC 0 2147483648 (word (slots 0 0 2 2147483648)) → ⊥
+unfolding stepsOn word
+sequence-for-c-tells-behind-from-ahead kept =
+    apart (2 * 65536 + 2147483648 * 4294967296) (3 * 65536 + 2147483648 * 4294967296) tt kept
+
+-- ---- count and check: one byte told as no records; the empty file refused; a good file told as none
+
+pub count-for-c-refuses-one-byte : CountsForC (7 ∷ []) 0 → ⊥
+unfolding counting badFile word
+count-for-c-refuses-one-byte kept = apart 0 21 tt kept
+
+pub count-for-c-takes-the-empty-file : CountsForC [] 21 → ⊥
+unfolding counting badFile word
+count-for-c-takes-the-empty-file kept = apart 21 0 tt kept
+
+pub check-for-c-refuses-one-byte : ChecksForC (7 ∷ []) 0 → ⊥
+unfolding checking badFile word
+check-for-c-refuses-one-byte kept = apart 0 21 tt kept
+
+pub check-for-c-counts-its-records : ChecksForC (recordOf M) 0 → ⊥
+unfolding word
+check-for-c-counts-its-records kept =
+    apart 0 65536 tt (kept ∙ ap (λ (a : CheckAnswer). word (checkSlots a)) (checks M (likeM absent 17 0) (omega arith) (starred .a .0)))
+
+-- ---- find: a record invented; an opened record invented
+
+pub find-for-c-invents-no-record : FindsForC [] (nameOf 6000 1) 0 → ⊥
+unfolding finding findFrom badFile word
+find-for-c-invents-no-record kept = apart 0 27 tt kept
+
+pub find-for-c-invents-no-opened-record : FindsForC [] (nameOf 6000 1) (word (slots 27 0 1 0)) → ⊥
+unfolding finding findFrom badFile word
+find-for-c-invents-no-opened-record kept = apart (27 + 65536) 27 tt kept
+
+-- ---- a line: the file's refusal passed over; numbers written on a refusal
+
+pub line-for-c-refuses-the-file-first : (exit : List ℕ) → EntersForC (7 ∷ []) 0 (9 ∷ []) 22 exit → ⊥
+unfolding entryAt badFile word
+line-for-c-refuses-the-file-first exit kept = apart 22 21 tt (kept .0)
+
+pub line-for-c-keeps-the-numbers-on-a-refusal : EntersForC [] 0 (9 ∷ []) 22 (0 ∷ []) → ⊥
+unfolding entryAt badFile
+line-for-c-keeps-the-numbers-on-a-refusal kept = apart 0 9 tt (ap (λ (s : List ℕ). getD s 0 0) (kept .1))
+
+-- ---- step: on past the end; a part written at the end
+
+pub step-for-c-stays-at-the-end : (exit : List ℕ) → StepsForC [] 0 (9 ∷ []) (word (slots 0 0 1 0)) exit → ⊥
+unfolding stepAt nextAfter badFile word
+step-for-c-stays-at-the-end exit kept = apart 65536 0 tt (kept .0)
+
+pub step-for-c-keeps-the-part-at-the-end : StepsForC [] 0 (9 ∷ []) 0 (0 ∷ []) → ⊥
+unfolding stepAt badFile
+step-for-c-keeps-the-part-at-the-end kept = apart 0 9 tt (ap (λ (s : List ℕ). getD s 0 0) (kept .1))
+
+-- ---- compare: a record that is not there told as same; a place listed on a refusal
+
+pub compare-for-c-refuses-no-record : (exit : List ℕ) → ComparesForC [] 0 M (9 ∷ []) 0 exit → ⊥
+unfolding comparing compare.answerOf badFile word
+compare-for-c-refuses-no-record exit kept = apart 0 22 tt (kept .0)
+
+pub compare-for-c-lists-nothing-on-a-refusal : ComparesForC [] 0 M (9 ∷ []) 22 (0 ∷ []) → ⊥
+unfolding comparing listAfter badFile
+compare-for-c-lists-nothing-on-a-refusal kept = apart 0 9 tt (ap (λ (s : List ℕ). getD s 0 0) (kept .1))
+
+-- ---- make: a buffer that is too short told as made; a message that reading refuses
+
+pub make-for-c-refuses-a-short-buffer : (exit : List ℕ) → MakesForC M [] 0 exit → ⊥
+unfolding making word
+make-for-c-refuses-a-short-buffer exit kept = apart 0 35 tt (rw (starred .a .0) at (kept .0))
+
+pub make-for-c-tells-what-reading-said : (exit : List ℕ) → MakesForC (take 20 M) [] 34 exit → ⊥
+unfolding making word
+make-for-c-tells-what-reading-said exit kept = apart 34 (34 + 256) tt (rw (starred .b) at (kept .0))
