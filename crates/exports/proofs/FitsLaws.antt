@@ -27,7 +27,7 @@ use Rattle.envelope.proofs.WriteLaws.{writes-no-longer}
 use Rattle.golden.proofs.FewLaws.{check-names-few, count-is-few, find-opens-few, step-reaches-short, compare-totals-few}
 use Rattle.exports.specs.Envelopes.{writeSlots, rewriteSlots}
 use Rattle.exports.specs.Goldens.{countSlots, checkSlots, findSlots, stepSlots, compareSlots}
-use Rattle.exports.specs.Word.{Slots, word, Fits, unword, WordTellsItsSlots}
+use Rattle.exports.specs.Word.{word, WordTellsItsSlots}
 
 write-in : (a : WriteAnswer) → wroteLength a ≤ largestMessage → writeSlots a .value < 2 ^ 32
 write-in (wrote n) h = omega (arith, h)

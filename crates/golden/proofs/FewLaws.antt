@@ -3,21 +3,21 @@
 use mathlib.Core.Bool.{Bool, true, false, cond, not}
 use mathlib.Core.List.{List, _∷_}
 use mathlib.Core.Path.{_≡_, refl}
-use Prim.Native.Nat.{ℕ, zero, suc, _+_, _%_, _*_, _≤_, _<_}
+use Prim.Native.Nat.{ℕ, zero, suc, _+_, _%_, _≤_}
 use native.Mathlib.Omega.{arith}
 use borrow.Author.Tests.{ltb-false}
 use lib.Dec.{eqb, ltb}
 use lib.ListN.{length, drop, length-take}
 use Rattle.envelope.proofs.BoolLaws.{neither}
 use Rattle.envelope.proofs.ReadingLaws.{accepted-most}
-use Rattle.envelope.specs.Fields.{Fields, Answer, accepted}
+use Rattle.envelope.specs.Fields.{Answer, accepted}
 use Rattle.envelope.specs.Fields as envelope
 use Rattle.envelope.specs.Layout.{largestMessage}
 use Rattle.envelope.specs.Promise.{Bytes}
 use Rattle.envelope.specs.Reading.{reading}
-use Rattle.golden.specs.Checking.{CheckAnswer, counted, unlessBad, checkFrom, checking}
+use Rattle.golden.specs.Checking.{CheckAnswer, unlessBad, checkFrom, checking}
 use Rattle.golden.specs.Checking as check
-use Rattle.golden.specs.Comparing.{differsAt, longer, differing, properBeginning, Outcome, positions, declined, comparingMessages, withRadio, withRecord, comparing, same, different, answerOf}
+use Rattle.golden.specs.Comparing.{differsAt, longer, differing, properBeginning, positions, declined, comparingMessages, withRadio, withRecord, comparing, same, different, answerOf}
 use Rattle.golden.specs.File.{mostRecords, largestFile, badFile, countOf, notThere, recordAt, judgedAt}
 use Rattle.golden.specs.Finding.{NameFields, hasName, FindAnswer, found, decides, findFrom, finding}
 use Rattle.golden.specs.Finding as find

@@ -7,3 +7,4 @@ pub mod Demand3
 pub mod WrongAnswers
 pub mod WrongGolden
 pub mod WrongExports
+pub mod Instances

@@ -33,7 +33,6 @@ use Rattle.envelope.specs.declared.rewriter.Rewriting.the-variants as again
 use Rattle.envelope.specs.declared.sequence.Sequence.the-variants.{Ahead, Behind}
 use Rattle.envelope.specs.declared.writer.WriteFault.the-variants.{StrayIntegrity, NoRoom}
 use Rattle.envelope.specs.declared.writer.Writing.{Writing}
-use Rattle.envelope.specs.declared.writer.Writing.the-variants.{Written}
 use Rattle.sheet.specs.Cases.{M, likeM}
 use Rattle.sheet.proofs.Apart.{apart, accepted-not-refused, refusal-number}
 use Rattle.sheet.proofs.Cases.{starred}

@@ -1,7 +1,7 @@
 -- For each promise of the C interface two answers that a careless program would give, each refuted by computing.
 -- `morlewen_crc` and `morlewen_distance` promise what `crc` and `distance` do; their wrong answers stand in WrongAnswers.
 use mathlib.Core.List.{List, [], _∷_}
-use mathlib.Core.Path.{_≡_, ap, sym, _∙_}
+use mathlib.Core.Path.{ap, _∙_}
 use Prim.Native.Nat.{ℕ, _+_, _*_}
 use native.Mathlib.Omega.{arith}
 use lib.ListN.{length, take, getD, replicate}

@@ -19,7 +19,6 @@ use Rattle.golden.specs.Positions.{noted}
 use Rattle.golden.specs.Record.{storedWord, storedLength, badLength, judging}
 use Rattle.golden.specs.Refusal.{Refused, plainly, NumbersRecordFault}
 use Rattle.golden.specs.Stepping.{stepAt, nextAfter, Steps}
-use Rattle.golden.specs.Theorems.{MadeGood}
 use Rattle.golden.specs.Walking.{Begins, Walks}
 use Rattle.golden.specs.declared.checker.Checking.the-variants as checking
 use Rattle.golden.specs.declared.comparer.Comparison.the-variants as comparison
@@ -30,7 +29,7 @@ use Rattle.golden.specs.declared.lister.Entry.the-variants as entry
 use Rattle.golden.specs.declared.maker.Making.the-variants as making
 use Rattle.golden.specs.declared.record.RecordFault.the-variants.{BadLength, Unread}
 use Rattle.golden.specs.declared.stepper.Reached.{Reached}
-use Rattle.golden.specs.declared.stepper.Reached.the-variants.{End, NotAFile}
+use Rattle.golden.specs.declared.stepper.Reached.the-variants.{End}
 use Rattle.golden.proofs.MadeLaws.{checks, compared, compares}
 use Rattle.sheet.specs.Cases.{M, likeM}
 use Rattle.sheet.proofs.Apart.{apart}

@@ -1,0 +1,178 @@
+-- No theorem of the sheet is empty: for each that has hypotheses, a case in which they hold, computed, and what it then says.
+-- Message M of document 01, the CRC message C, a file that make wrote, the empty file, and a file of one byte.
+use mathlib.Core.Bool.{false, cond, not}
+use mathlib.Core.List.{List, [], _∷_}
+use mathlib.Core.Path.{_≡_, refl, ap, sym}
+use Prim.Native.Nat.{ℕ}
+use native.Mathlib.Omega.{arith}
+use denote.Ref.{RefT, now}
+use lib.Dec.{eqb}
+use lib.ListN.{take, drop, replicate}
+use Rattle.sum.specs.Detection.{Bytes, bitsOf}
+use Rattle.sum.proofs.Computed.{literals}
+use Rattle.envelope.specs.Demand3.{DeclaresCrc, before, field}
+use Rattle.envelope.specs.Fields.{absent}
+use Rattle.envelope.specs.Flags.{badFlags}
+use Rattle.envelope.specs.Message.{beforeField, fieldNumber, message}
+use Rattle.envelope.specs.Numbers.{twoAt}
+use Rattle.envelope.specs.Qos.{joined, splitting, joining}
+use Rattle.envelope.specs.RoundTrips.{ReadsAs}
+use Rattle.envelope.specs.Writing.{Outcome, written, refused, writing, answerOf, bufferAfter, hasZero, badEnd, strayIntegrity}
+use Rattle.envelope.specs.declared.writer.Writing.the-variants.{Written, Refused}
+use Rattle.envelope.specs.declared.writer.WriteFault.the-variants.{NoRoom}
+use Rattle.golden.specs.Checking.{counted, checking}
+use Rattle.golden.specs.Comparing.{properBeginning, comparing, listAfter}
+use Rattle.golden.specs.Comparing as compare
+use Rattle.golden.specs.File.{badFile, recordAt}
+use Rattle.golden.specs.Finding.{finding}
+use Rattle.golden.specs.Making.{making, recordOf}
+use Rattle.golden.specs.Making as make
+use Rattle.golden.specs.Refusal.{plainly}
+use Rattle.golden.specs.Record.{storedWord, storedLength, messageOf}
+use Rattle.golden.specs.Stepping.{stepAt, nextAfter, toldReached}
+use Rattle.golden.specs.Stepping as step
+use Rattle.golden.specs.Theorems.{AllGood, FirstNamed, MadeGood, InOrder}
+use Rattle.golden.specs.declared.comparer.Comparison.the-variants.{NoRecord}
+use Rattle.golden.specs.declared.maker.Making.the-variants.{Made, WrongBuffer}
+use Rattle.golden.specs.declared.stepper.Reached.the-variants.{End, NotAFile}
+use Rattle.golden.proofs.MadeLaws.{checks}
+use Rattle.sheet.specs.Cases.{M, likeM, C, fieldsOfC}
+use Rattle.sheet.proofs.Cases.{starred}
+use Rattle.sheet.proofs.Demand1.{a-refusal-writes-nothing, a-refused-comparison-keeps-the-list, a-refused-making-keeps-the-buffer}
+use Rattle.sheet.proofs.Demand2.{written-then-read, written-buffer-then-read, read-then-written, same-fields-same-bytes, qos-joins-what-was-split, qos-splits-what-was-joined, file-walks-in-order, other-file-stays, checked-are-good, finds-the-first, made-is-good, never-a-beginning}
+use Rattle.sheet.proofs.Demand3.{four-bytes-show, thirty-two-bits-show, demand-3, demand-3-bits, golden-demand-3}
+use Rattle.sheet.proofs.WrongAnswers.{givenM, writes-M}
+
+-- ---- the round trips, at M
+
+bytes-M : Bytes M
+bytes-M = literals M tt
+
+pub M-written-then-read : ReadsAs M givenM
+M-written-then-read = written-then-read givenM 21 M writes-M
+
+pub M-written-buffer-then-read : ReadsAs M givenM
+M-written-buffer-then-read =
+    written-buffer-then-read givenM (replicate 21 0) M (Written 21) 21
+    (ap answerOf (sym writes-M), ap (λ (o : Outcome). bufferAfter o (replicate 21 0)) (sym writes-M)) refl
+
+pub M-read-then-written : writing givenM 21 ≡ written M
+M-read-then-written = read-then-written M (likeM absent 17 0) 21 bytes-M (starred .a .0) (omega arith)
+
+pub M-same-fields-same-bytes : M ≡ M
+M-same-fields-same-bytes = same-fields-same-bytes M M (likeM absent 17 0) bytes-M bytes-M (starred .a .0) (starred .a .0) refl
+
+pub qos-8-joins : joining (splitting 8) ≡ joined 8
+qos-8-joins = qos-joins-what-was-split 8 (omega arith)
+
+pub qos-8-splits : splitting 8 ≡ splitting 8
+qos-8-splits = qos-splits-what-was-joined (splitting 8) 8 qos-8-joins
+
+-- ---- a refusal leaves what was lent: no room for M, no record to compare with, a buffer that is no record
+
+M-finds-no-room : writing givenM 0 ≡ refused 15
+unfolding writing message beforeField fieldNumber badFlags badEnd hasZero strayIntegrity
+M-finds-no-room = refl
+
+pub no-room-writes-nothing : _≡_ {A = List ℕ} [] []
+no-room-writes-nothing =
+    a-refusal-writes-nothing givenM [] [] (Refused NoRoom) 15
+    (ap answerOf (sym M-finds-no-room), ap (λ (o : Outcome). bufferAfter o []) (sym M-finds-no-room)) refl
+
+pub no-record-keeps-the-list : _≡_ {A = List ℕ} (9 ∷ []) (9 ∷ [])
+unfolding comparing compare.answerOf listAfter badFile
+no-record-keeps-the-list = a-refused-comparison-keeps-the-list [] 0 M (9 ∷ []) (9 ∷ []) NoRecord (plainly 22) (refl, refl) refl
+
+made-in : (room : ℕ) → making M room ≡ cond (not (eqb room 512)) (make.declined (plainly 35)) make.made
+unfolding making
+made-in room = rw (starred .a .0)
+
+pub wrong-buffer-keeps-it : _≡_ {A = List ℕ} (9 ∷ []) (9 ∷ [])
+wrong-buffer-keeps-it =
+    a-refused-making-keeps-the-buffer M (9 ∷ []) (9 ∷ []) WrongBuffer (plainly 35)
+    (sym (made-in 1), ap (λ (a : make.MakeAnswer). make.bufferAfter a M (9 ∷ [])) (sym (made-in 1))) refl
+
+-- ---- golden files: one that make wrote, the empty one, and one byte
+
+abbrev file : List ℕ
+file = recordOf M
+
+checks-M : checking file ≡ counted 1
+checks-M = checks M (likeM absent 17 0) (omega arith) (starred .a .0)
+
+pub made-file-is-good : MadeGood M file
+made-file-is-good =
+    made-is-good M (replicate 512 0) file Made
+    (sym (made-in 512), ap (λ (a : make.MakeAnswer). make.bufferAfter a M (replicate 512 0)) (sym (made-in 512))) refl
+
+pub made-file-has-good-records : AllGood file 1
+made-file-has-good-records = checked-are-good file 1 checks-M
+
+pub made-file-is-searched : FirstNamed file (record { messageType = 6000; number = 1 }) 1 (finding file (record { messageType = 6000; number = 1 }))
+made-file-is-searched = finds-the-first file (record { messageType = 6000; number = 1 }) 1 checks-M
+
+pub M-and-C-no-beginning : properBeginning M C ≡ false
+M-and-C-no-beginning = never-a-beginning M C (likeM absent 17 0) fieldsOfC (starred .a .0) (starred .kind-crc)
+
+-- any reference to the empty file: the walk is at its end from the first step on
+pub empty-file-walks : (lent : RefT (List ℕ)) → now lent ≡ [] → InOrder (now lent) (λ k. End)
+unfolding stepAt nextAfter badFile
+empty-file-walks lent e =
+    file-walks-in-order lent (λ k. record { file = lent; next = 0 }) (λ k. End)
+    (record { fresh = (refl, refl); steps = λ k. (rw e, (refl, rw e)) }) (rw e)
+
+pub one-byte-stays : (lent : RefT (List ℕ)) → now lent ≡ 7 ∷ [] → (k : ℕ) → toldReached NotAFile ≡ step.refused (plainly 21)
+unfolding stepAt nextAfter badFile
+one-byte-stays lent e k =
+    other-file-stays lent (λ k. record { file = lent; next = 0 }) (λ k. NotAFile)
+    (record { fresh = (refl, refl); steps = λ k. (rw e, (refl, rw e)) }) (rw e) k
+
+-- ---- demand 3, at C: both windows, and the sum's own laws
+
+bytes-C : Bytes C
+bytes-C = literals C tt
+
+declares-C : DeclaresCrc C
+declares-C = record { fields = fieldsOfC; accepts = starred .kind-crc; declares = refl }
+
+pub C-before-the-field : C ≡ C
+C-before-the-field =
+    demand-3 C C 0 bytes-C bytes-C refl declares-C declares-C (before (omega arith)) (λ i h. refl, λ i h. refl)
+
+pub C-the-field : C ≡ C
+C-the-field = demand-3 C C 19 bytes-C bytes-C refl declares-C declares-C (field refl) (λ i h. refl, λ i h. refl)
+
+pub C-in-bits : C ≡ C
+unfolding bitsOf
+C-in-bits =
+    demand-3-bits C C [] (take 32 (bitsOf C)) (take 32 (bitsOf C)) (drop 32 (bitsOf (take 19 C))) bytes-C bytes-C refl declares-C declares-C refl refl refl (omega arith) refl
+
+pub four-bytes-show-themselves : take 4 M ≡ take 4 M
+four-bytes-show-themselves =
+    four-bytes-show [] (take 4 M) (take 4 M) (drop 4 M) (literals [] tt) (literals (take 4 M) tt) (literals (take 4 M) tt) (literals (drop 4 M) tt) refl (omega arith) refl
+
+pub bits-show-themselves : take 4 M ≡ take 4 M
+unfolding bitsOf
+bits-show-themselves =
+    thirty-two-bits-show (take 4 M) (take 4 M) [] (bitsOf (take 4 M)) (bitsOf (take 4 M)) [] (literals (take 4 M) tt) (literals (take 4 M) tt) refl refl refl (omega arith) refl
+
+-- a file of the one record of C
+abbrev fileC : List ℕ
+fileC = recordOf C
+
+checks-C : checking fileC ≡ counted 1
+checks-C = checks C fieldsOfC (omega arith) (starred .kind-crc)
+
+message-is-C : messageOf (recordAt fileC 0) ≡ C
+unfolding recordOf storedLength storedWord twoAt
+message-is-C = refl
+
+bytes-of-file : Bytes fileC
+unfolding recordOf
+bytes-of-file = literals fileC tt
+
+pub file-of-C : fileC ≡ fileC
+file-of-C =
+    let declares : DeclaresCrc (messageOf (recordAt fileC 0)) = rw message-is-C declares-C in
+    golden-demand-3 fileC fileC 1 1 0 0 bytes-of-file bytes-of-file checks-C checks-C (omega arith) declares declares
+    (rw message-is-C (before (omega arith))) refl (λ i h. refl, λ i h. refl)
