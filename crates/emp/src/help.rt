@@ -1,0 +1,75 @@
+// Help: every command, the limit, the exit statuses and every refusal, in plain words.
+// Rests on `words` for what a refusal means.
+use crate::printing::end_answer;
+use crate::printing::text;
+use crate::printing::text_number;
+use crate::status::Status;
+use crate::words::words;
+use libc::STDOUT_FILENO;
+
+pub fn help() -> Status {
+    text(
+        b"emp tells what golden files and EMP messages hold. Files are opened for reading only.
+
+emp list GOLDEN                  every record: its type, number and length, or its refusal
+emp check GOLDEN                 the count of records, or the first bad one
+emp find GOLDEN TYPE NUMBER      the first record of that type and number, and how many were opened
+emp compare GOLDEN RECORD RADIO  a record beside the radio's message: same, or where the two differ
+emp read MESSAGE                 every field of a message, or its refusal
+emp sum FILE                     the CRC of all bytes of a file
+emp make MESSAGE                 the record of 512 bytes that holds a message, to standard output
+emp help                         this
+
+GOLDEN, RADIO, MESSAGE and FILE are names of files, from which at most 65536 bytes are taken.
+TYPE, NUMBER and RECORD are numbers in digits; the first record is 0.
+
+Exit status
+   0  done, good, or the same
+   1  refused by a number below, or different
+   2  a complaint, which is one line on standard error
+   3  the program did not come to its end
+
+Refusals",
+    );
+    reading_refusals();
+    golden_refusals();
+    radio_refusals();
+    end_answer(Status::Done)
+}
+
+fn reading_refusals() {
+    refusal(1);
+    refusal(2);
+    refusal(3);
+    refusal(4);
+    refusal(5);
+    refusal(6);
+    refusal(7);
+}
+
+fn golden_refusals() {
+    refusal(21);
+    refusal(22);
+    refusal(23);
+    refusal(24);
+    refusal(25);
+    refusal(27);
+}
+
+fn radio_refusals() {
+    refusal(31);
+    refusal(32);
+    refusal(33);
+    refusal(34);
+    refusal(35);
+}
+
+fn refusal(n: u8) {
+    if n < 10 {
+        text_number(b"\n   ", n as u64);
+    } else {
+        text_number(b"\n  ", n as u64);
+    }
+    text(b"  ");
+    words(STDOUT_FILENO, n);
+}
