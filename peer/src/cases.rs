@@ -1,0 +1,94 @@
+//! The worked examples of the rules, and sums that others have published.
+//! Each is built here byte by byte and carries the answer it must have.
+
+/// A message and its answer: 0 where it is accepted, else the refusal's number.
+pub struct Case {
+    pub name: &'static str,
+    pub message: Vec<u8>,
+    pub answer: u8,
+}
+
+/// Known CRC-32 values from outside.
+pub fn published_sums() -> Vec<(Vec<u8>, u32)> {
+    vec![
+        (b"123456789".to_vec(), 0xCBF4_3926),
+        (b"".to_vec(), 0),
+        (b"a".to_vec(), 0xE8B7_BE43),
+        (b"abc".to_vec(), 0x3524_41C2),
+        (b"The quick brown fox jumps over the lazy dog".to_vec(), 0x414F_A339),
+        (vec![0; 32], 0x190A_55AD),
+        (vec![0xFF; 32], 0xFF6C_AB0B),
+        ((0..32).collect(), 0x9126_7E8A),
+    ]
+}
+
+/// The message M: type 6000, number 1, no integrity, 21 bytes.
+pub fn shortest() -> Vec<u8> {
+    vec![0x04, 0x17, 0x70, 1, 0, 0, 0, 0, 0, 0, 0, 1, 0, 0, 0, 0, 0, 0, 0, 0, 0]
+}
+
+fn changed(place: usize, byte: u8) -> Vec<u8> {
+    let mut message = shortest();
+    message[place] = byte;
+    message
+}
+
+/// M with a body of one byte.
+pub fn one_body_byte() -> Vec<u8> {
+    let mut message = changed(7, 1);
+    message.insert(17, 0x55);
+    message
+}
+
+/// M with a variable header: TTL 120, QoS 0, and these bytes as its ends.
+pub fn with_ends(size: u8, ends: &[u8]) -> Vec<u8> {
+    let mut message = changed(16, size);
+    let header = [&[0, 120, 0, 0], ends].concat();
+    message.splice(17..17, header);
+    message
+}
+
+/// The letter as source, and as destination.
+pub fn one_letter_ends() -> [Vec<u8>; 2] {
+    [with_ends(7, b"A\0\0"), with_ends(7, b"\0A\0")]
+}
+
+/// Two ends of so many letters.
+fn lettered_ends(source: usize, destination: usize) -> Vec<u8> {
+    [vec![b'S'; source], vec![0], vec![b'D'; destination], vec![0]].concat()
+}
+
+/// The cases that are one message each.
+pub fn messages() -> Vec<Case> {
+    let longer = [shortest(), vec![0]].concat();
+    let [left, right] = one_letter_ends();
+    let table = [
+        ("a", shortest(), 0),
+        ("b", shortest()[..20].to_vec(), 1),
+        ("c", changed(0, 3), 2),
+        ("d", changed(16, 5), 4),
+        ("e", longer, 5),
+        ("f", changed(20, 1), 7),
+        ("g", one_body_byte(), 0),
+        ("h", with_ends(6, &[0, 0]), 0),
+        ("i, two letters", with_ends(7, b"AA\0"), 6),
+        ("i, source", left, 0),
+        ("i, destination", right, 0),
+        ("j", with_ends(132, &lettered_ends(63, 63)), 0),
+        ("j, V 133", with_ends(133, &lettered_ends(64, 63)), 4),
+        ("j, 64 letters", with_ends(132, &lettered_ends(64, 62)), 6),
+    ];
+    table.into_iter().map(|(name, message, answer)| Case { name, message, answer }).collect()
+}
+
+/// The file of the listing case: M in a record, then the same record with a stored length of 20.
+pub fn listed_file() -> Vec<u8> {
+    let mut record = [vec![0, 21], shortest()].concat();
+    record.resize(512, 0);
+    let mut file = record.repeat(2);
+    file[513] = 20;
+    file
+}
+
+/// How that file is listed.
+pub const LISTING: &str = "records 2\n0 6000 1 21\n1 refused 23 0\n";

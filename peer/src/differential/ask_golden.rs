@@ -1,0 +1,153 @@
+//! What is asked of both sides about golden files: counts, checks, walks, searches and comparisons.
+//! Beside each answer, what must hold between answers.
+
+use super::lent::{array, hex};
+use super::run::Run;
+use super::tally::Operation;
+use crate::interface::{Answer, LINE, PART};
+use crate::{mirror, ours};
+use peer::golden::{PREFIX, RECORD};
+
+/// Everything about one golden file, comparisons apart.
+pub fn file(run: &mut Run, file: &[u8]) {
+    let shown = || format!("file {}", hex(file));
+    let before = file.to_vec();
+    let records = run.plain(Operation::Records, || ours::records(file), || mirror::records(file), &shown);
+    let check = run.plain(Operation::Check, || ours::check(file), || mirror::check(file), &shown);
+    let walk = walk(run, file);
+    run.holds("a walk goes as far as there are records", walk.count == records.count, &shown);
+    let expected = walk.first_bad.unwrap_or(records);
+    run.holds("a check answers what a walk meets first", check == expected, &shown);
+    let far = run.random.pick(&[128, 129, 1 << 32, 1 << 55, (1 << 55) + 1, usize::MAX / RECORD, usize::MAX]);
+    step_and_line(run, file, far);
+    for (message_type, number) in sought(run, file) {
+        find(run, file, message_type, number);
+    }
+    run.holds("a file lent to be read stays as it was", before == file, &shown);
+}
+
+struct Walk {
+    count: u16,
+    /// The first refusal met, as a check answers it.
+    first_bad: Option<Answer>,
+}
+
+/// Walks from the first record until the walk stays where it is.
+fn walk(run: &mut Run, file: &[u8]) -> Walk {
+    let mut walk = Walk { count: 0, first_bad: None };
+    loop {
+        let step = step_and_line(run, file, usize::from(walk.count));
+        if step.number != 0 && walk.first_bad.is_none() {
+            walk.first_bad = Some(Answer { count: walk.count, ..step });
+        }
+        if step.count == 0 {
+            return walk;
+        }
+        walk.count += step.count;
+    }
+}
+
+/// One record by a step and by a line, which must tell the same.
+fn step_and_line(run: &mut Run, file: &[u8], record: usize) -> Answer {
+    let shown = || format!("record {record}, file {}", hex(file));
+    let (step, part) = run.beside(
+        Operation::Step,
+        PART,
+        |part| ours::step(file, record, array(part)),
+        |part| mirror::step(file, record, array(part)),
+        &shown,
+    );
+    let (answer, line) = line(run, file, record);
+    let same = match (step.number, step.value) {
+        (0, 0) => answer.number == 22,
+        (0, size) => {
+            let place = (record * RECORD + PREFIX) as u64;
+            answer.number == 0 && part.content() == [place, size.into()] && line[2] == u64::from(size)
+        }
+        (number, _) => (answer.number, answer.reading) == (number, step.reading),
+    };
+    run.holds("a step and a line tell the same", same, &shown);
+    step
+}
+
+fn line(run: &mut Run, file: &[u8], record: usize) -> (Answer, [u64; LINE]) {
+    let (answer, line) = run.beside(
+        Operation::Line,
+        LINE,
+        |line| ours::line(file, record, array(line)),
+        |line| mirror::line(file, record, array(line)),
+        &|| format!("record {record}, file {}", hex(file)),
+    );
+    (answer, line.content().try_into().expect("three places were lent"))
+}
+
+/// Types and numbers to look for: of some record, beside it, and any.
+fn sought(run: &mut Run, file: &[u8]) -> [(u16, u32); 3] {
+    let random = &mut run.random;
+    let first = random.up_to(file.len() / RECORD) * RECORD + PREFIX;
+    let Some(header) = file.get(first..first + 12) else { return [(0, 0), (6000, 1), (u16::MAX, u32::MAX)] };
+    let message_type = u16::from_be_bytes([header[1], header[2]]);
+    let number = u32::from_be_bytes([header[8], header[9], header[10], header[11]]);
+    let beside = if random.once_in(2) { (message_type ^ 1, number) } else { (message_type, number ^ 1) };
+    [(message_type, number), beside, (6000 + random.up_to(3) as u16, random.number())]
+}
+
+pub fn find(run: &mut Run, file: &[u8], message_type: u16, number: u32) -> Answer {
+    let shown = || format!("type {message_type}, number {number}, file {}", hex(file));
+    let answer = run.plain(
+        Operation::Find,
+        || ours::find(file, message_type, number),
+        || mirror::find(file, message_type, number),
+        &shown,
+    );
+    if answer.number == 0 {
+        let (_, line) = line(run, file, answer.value as usize);
+        let found = [line[0], line[1]] == [message_type.into(), number.into()];
+        run.holds("what is found has the type and number sought", found, &shown);
+        run.holds("the record found is the last opened", answer.value + 1 == u32::from(answer.count), &shown);
+    }
+    answer
+}
+
+/// One record against one radio message, with lists of several rooms.
+pub fn comparison(run: &mut Run, file: &[u8], record: usize, radio: &[u8]) {
+    let rooms = [0, 1, run.random.between(2, 9), run.random.between(10, 700)];
+    for room in rooms {
+        let shown = || format!("room {room}, record {record}, radio {}, file {}", hex(radio), hex(file));
+        let (answer, places) = run.beside(
+            Operation::Compare,
+            room,
+            |places| ours::compare(file, record, radio, places),
+            |places| mirror::compare(file, record, radio, places),
+            &shown,
+        );
+        if answer.number == 0 {
+            let listed = &places.content()[..room.min(answer.value as usize)];
+            run.holds("places ascend", listed.windows(2).all(|pair| pair[0] < pair[1]), &shown);
+            let stored = &file[record * RECORD + PREFIX..][..radio.len().min(RECORD - PREFIX)];
+            run.holds("the same are the same bytes", answer.value != 0 || stored == radio, &shown);
+        }
+    }
+}
+
+/// The listing of a file, from its count and its lines.
+pub fn listing(
+    file: &[u8],
+    records: impl Fn(&[u8]) -> Answer,
+    line: impl Fn(&[u8], usize, &mut [u64; LINE]) -> Answer,
+) -> String {
+    let count = records(file);
+    if count.number != 0 {
+        return format!("refused {} {}\n", count.number, count.reading);
+    }
+    let mut listing = format!("records {}\n", count.count);
+    for record in 0..usize::from(count.count) {
+        let mut told = [0; LINE];
+        let answer = line(file, record, &mut told);
+        listing += &match answer.number {
+            0 => format!("{record} {} {} {}\n", told[0], told[1], told[2]),
+            number => format!("{record} refused {number} {}\n", answer.reading),
+        };
+    }
+    listing
+}

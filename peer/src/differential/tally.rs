@@ -1,0 +1,133 @@
+//! How often each operation gave each answer, and which answers a full run must have seen.
+//! 32 is left out: no accepted message is a proper beginning of another.
+
+use crate::interface::{Answer, AHEAD, BEHIND, NEXT, REPEAT};
+use std::collections::BTreeMap;
+use std::fmt;
+
+#[derive(Clone, Copy, Debug, PartialEq, Eq, PartialOrd, Ord)]
+pub enum Operation {
+    Crc,
+    Read,
+    Write,
+    Rewrite,
+    QosSplit,
+    QosJoin,
+    Lateness,
+    Distance,
+    Sequence,
+    Records,
+    Check,
+    Find,
+    Line,
+    Step,
+    Compare,
+    Make,
+}
+
+#[derive(Clone, Copy, Debug, PartialEq, Eq, PartialOrd, Ord)]
+pub enum Outcome {
+    Done(&'static str),
+    Refused(u8),
+    Unread(u8, u8),
+}
+
+impl fmt::Display for Outcome {
+    fn fmt(&self, out: &mut fmt::Formatter) -> fmt::Result {
+        match self {
+            Outcome::Done(word) => write!(out, "{word}"),
+            Outcome::Refused(number) => write!(out, "{number}"),
+            Outcome::Unread(number, reading) => write!(out, "{number}/{reading}"),
+        }
+    }
+}
+
+impl Outcome {
+    pub fn of(operation: Operation, answer: Answer) -> Outcome {
+        match (answer.number, answer.reading) {
+            (0, _) => Outcome::Done(word(operation, answer)),
+            (number, 0) => Outcome::Refused(number),
+            (number, reading) => Outcome::Unread(number, reading),
+        }
+    }
+}
+
+/// What "done" amounts to, where an operation can be done in several ways.
+fn word(operation: Operation, answer: Answer) -> &'static str {
+    match (operation, answer.value, answer.count) {
+        (Operation::Step, 0, _) => "end",
+        (Operation::Step, ..) => "message",
+        (Operation::Compare, 0, _) => "same",
+        (Operation::Compare, ..) => "different",
+        (Operation::Sequence, _, REPEAT) => "repeat",
+        (Operation::Sequence, _, NEXT) => "next",
+        (Operation::Sequence, _, AHEAD) => "ahead",
+        (Operation::Sequence, _, BEHIND) => "behind",
+        _ => "done",
+    }
+}
+
+#[derive(Default)]
+pub struct Tally {
+    came: BTreeMap<(Operation, Outcome), u64>,
+}
+
+impl Tally {
+    pub fn count(&mut self, operation: Operation, outcome: Outcome) {
+        *self.came.entry((operation, outcome)).or_default() += 1;
+    }
+
+    /// One line per operation, each answer with how often it came.
+    pub fn print(&self) {
+        let mut lines: BTreeMap<Operation, Vec<String>> = BTreeMap::new();
+        for ((operation, outcome), times) in &self.came {
+            lines.entry(*operation).or_default().push(format!("{outcome} x {times}"));
+        }
+        for (operation, answers) in lines {
+            println!("  {operation:?}: {}", answers.join(", "));
+        }
+    }
+
+    /// The answers that had to come up and did not.
+    pub fn missing(&self) -> Vec<(Operation, Outcome)> {
+        required().into_iter().filter(|key| !self.came.contains_key(key)).collect()
+    }
+}
+
+fn required() -> Vec<(Operation, Outcome)> {
+    use Operation::{Check, Compare, Crc, Distance, Find, Lateness, Line, Make};
+    use Operation::{QosJoin, QosSplit, Read, Records, Rewrite, Sequence, Step, Write};
+    let table: [(Operation, &[&'static str], &[u8]); 16] = [
+        (Crc, &["done"], &[]),
+        (Read, &["done"], &[1, 2, 3, 4, 5, 6, 7]),
+        (Write, &["done"], &[11, 12, 13, 14, 15]),
+        (Rewrite, &["done"], &[1, 2, 3, 4, 5, 6, 7, 15]),
+        (QosSplit, &["done"], &[]),
+        (QosJoin, &["done"], &[41]),
+        (Lateness, &["in time", "late", "no clock"], &[]),
+        (Distance, &["done"], &[]),
+        (Sequence, &["repeat", "next", "ahead", "behind"], &[]),
+        (Records, &["done"], &[21]),
+        (Check, &["done"], &[21, 23, 24, 25]),
+        (Find, &["done"], &[21, 23, 24, 25, 27]),
+        (Line, &["done"], &[21, 22, 23, 24, 25]),
+        (Step, &["message", "end"], &[21, 23, 24, 25]),
+        (Compare, &["same", "different"], &[21, 22, 23, 24, 25, 31]),
+        (Make, &["done"], &[33, 34, 35]),
+    ];
+    let mut required = Vec::new();
+    for (operation, words, numbers) in table {
+        required.extend(words.iter().map(|word| (operation, Outcome::Done(word))));
+        required.extend(numbers.iter().flat_map(|&number| refusals(number)).map(|outcome| (operation, outcome)));
+    }
+    required
+}
+
+/// A refusal with each reading number it can carry; a stored length is never too short for reading.
+fn refusals(number: u8) -> Vec<Outcome> {
+    match number {
+        25 => (2..=7).map(|reading| Outcome::Unread(number, reading)).collect(),
+        31 | 34 => (1..=7).map(|reading| Outcome::Unread(number, reading)).collect(),
+        _ => vec![Outcome::Refused(number)],
+    }
+}

@@ -1,0 +1,7 @@
+//! The peer: the rules for EMP envelopes and golden files, written a second time in plain Rust.
+//! It shares no line with the proved library, so that the two can be run side by side.
+
+pub mod cases;
+pub mod crc;
+pub mod envelope;
+pub mod golden;
