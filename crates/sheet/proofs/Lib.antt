@@ -1,10 +1,12 @@
 pub mod Apart
 pub mod Cases
 pub mod Limits
+pub mod Edges
 pub mod Demand1
 pub mod Demand2
 pub mod Demand3
 pub mod WrongAnswers
 pub mod WrongGolden
 pub mod WrongExports
+pub mod WrongRules
 pub mod Instances

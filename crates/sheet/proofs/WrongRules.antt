@@ -1,0 +1,179 @@
+-- For each number of document 01, an answer that passes over its rule, refuted by computing.
+-- 21, 22, 27, 35 and 41 are passed over in WrongAnswers and WrongGolden; 32 never comes about.
+use mathlib.Core.List.{List, [], _∷_, _++_}
+use mathlib.Core.Path.{_≡_, refl, ap, _∙_}
+use Prim.Native.Nat.{ℕ, _+_}
+use native.Mathlib.Omega.{arith}
+use borrow.Author.Tests.{lt-ltb}
+use lib.ListN.{length, take, set, replicate}
+use Rattle.envelope.specs.Fields.{refusal}
+use Rattle.envelope.specs.Flags.{badFlags}
+use Rattle.envelope.specs.Heading.{heading}
+use Rattle.envelope.specs.Layout.{largestBody}
+use Rattle.envelope.specs.Message.{Given, unaddressed, beforeField, fieldNumber, message}
+use Rattle.envelope.specs.Numbers.{twoAt}
+use Rattle.envelope.specs.Reading.{reading}
+use Rattle.envelope.specs.Told.{Reads}
+use Rattle.envelope.specs.Writing.{refused, writing, wrote, barred, answerOf, badEnd, hasZero, strayIntegrity, Writes}
+use Rattle.envelope.specs.declared.fields.Envelope.{Envelope}
+use Rattle.envelope.specs.declared.reader.Reading.the-variants.{Accepted}
+use Rattle.envelope.specs.declared.writer.Writing.the-variants.{Written}
+use Rattle.golden.specs.Checking.{counted, checkFrom, checking, Checks}
+use Rattle.golden.specs.Checking as check
+use Rattle.golden.specs.Comparing.{comparing, Compares}
+use Rattle.golden.specs.Comparing as compare
+use Rattle.golden.specs.File.{badFile, judgedAt}
+use Rattle.golden.specs.Making.{made, making, recordOf, Makes}
+use Rattle.golden.specs.Making as make
+use Rattle.golden.specs.Record.{longestMessage, storedWord, storedLength, allZero, badLength, judging}
+use Rattle.golden.specs.Refusal.{Refused, plainly, passingOn}
+use Rattle.golden.specs.declared.checker.Checking.the-variants.{Count}
+use Rattle.golden.specs.declared.comparer.Comparison.the-variants.{Same}
+use Rattle.golden.specs.declared.maker.Making.the-variants.{Made}
+use Rattle.sheet.specs.Cases.{M, withAddresses}
+use Rattle.sheet.proofs.Apart.{accepted-not-refused}
+use Rattle.sheet.proofs.Cases.{starred}
+use Rattle.sheet.proofs.WrongAnswers.{givenM}
+
+-- ---- reading
+
+pub read-passes-not-over-1 : (e : Envelope) → Reads (take 20 M) (Accepted e) → ⊥
+read-passes-not-over-1 e kept = accepted-not-refused _ 1 (kept ∙ starred .b)
+
+pub read-passes-not-over-2 : (e : Envelope) → Reads (set M 0 3) (Accepted e) → ⊥
+read-passes-not-over-2 e kept = accepted-not-refused _ 2 (kept ∙ starred .c)
+
+-- bit 5, and kind 3
+unassigned : (reading (set M 4 0x20) ≡ refusal 3) × (reading (set M 4 0x18) ≡ refusal 3)
+unfolding reading heading badFlags
+unassigned = (refl, refl)
+
+pub read-passes-not-over-3 : (e : Envelope) → Reads (set M 4 0x20) (Accepted e) → ⊥
+read-passes-not-over-3 e kept = accepted-not-refused _ 3 (kept ∙ unassigned .0)
+
+pub read-passes-not-over-kind-3 : (e : Envelope) → Reads (set M 4 0x18) (Accepted e) → ⊥
+read-passes-not-over-kind-3 e kept = accepted-not-refused _ 3 (kept ∙ unassigned .1)
+
+pub read-passes-not-over-4 : (e : Envelope) → Reads (set M 16 5) (Accepted e) → ⊥
+read-passes-not-over-4 e kept = accepted-not-refused _ 4 (kept ∙ starred .d .0)
+
+pub read-passes-not-over-5 : (e : Envelope) → Reads (M ++ 0 ∷ []) (Accepted e) → ⊥
+read-passes-not-over-5 e kept = accepted-not-refused _ 5 (kept ∙ starred .e 0)
+
+pub read-passes-not-over-6 : (e : Envelope) → Reads (withAddresses 7 (0x41 ∷ 0x41 ∷ 0 ∷ [])) (Accepted e) → ⊥
+read-passes-not-over-6 e kept = accepted-not-refused _ 6 (kept ∙ starred .i-refused)
+
+pub read-passes-not-over-7 : (e : Envelope) → Reads (set M 20 1) (Accepted e) → ⊥
+read-passes-not-over-7 e kept = accepted-not-refused _ 7 (kept ∙ starred .f)
+
+-- ---- writing: M as it is given, but for one thing
+
+wrote-not-barred : (n k : ℕ) → wrote n ≡ barred k → ⊥
+wrote-not-barred n k e = let z : _≡_ {A = ℕ} 0 1 = cc in omega arith
+
+passed-over : (g : Given) (entry : List ℕ) (n k : ℕ) → writing g (length entry) ≡ refused k → wrote n ≡ answerOf (writing g (length entry)) → ⊥
+passed-over g entry n k refuses kept = wrote-not-barred n k (kept ∙ ap answerOf refuses)
+
+abbrev like : (flags : ℕ) (source body : List ℕ) (application : ℕ) → Given
+like flags source body application =
+    record {
+      header = record { messageType = 6000; version = 1; flags = flags; number = 1; time = 0 };
+      routing = unaddressed;
+      source = source;
+      destination = [];
+      body = body;
+      application = application;
+    }
+
+refuses-11 : writing (like 0x20 [] [] 0) 21 ≡ refused 11
+unfolding writing badFlags
+refuses-11 = refl
+
+pub write-passes-not-over-11 : (n : ℕ) (exit : List ℕ) → Writes (like 0x20 [] [] 0) (replicate 21 0) (Written n) exit → ⊥
+write-passes-not-over-11 n exit kept = passed-over (like 0x20 [] [] 0) (replicate 21 0) n 11 refuses-11 (kept .0)
+
+-- an address where addressing is absent
+refuses-12 : writing (like 0 (0x41 ∷ []) [] 0) 21 ≡ refused 12
+unfolding writing badFlags badEnd hasZero
+refuses-12 = refl
+
+pub write-passes-not-over-12 : (n : ℕ) (exit : List ℕ) → Writes (like 0 (0x41 ∷ []) [] 0) (replicate 21 0) (Written n) exit → ⊥
+write-passes-not-over-12 n exit kept = passed-over (like 0 (0x41 ∷ []) [] 0) (replicate 21 0) n 12 refuses-12 (kept .0)
+
+-- any body of a byte too many, whatever the room
+refuses-13 : (body : List ℕ) (room : ℕ) → length body ≡ largestBody + 1 → writing (like 0 [] body 0) room ≡ refused 13
+unfolding writing badFlags badEnd hasZero
+refuses-13 body room e = rw (lt-ltb largestBody (length body) (omega (arith, e)))
+
+pub write-passes-not-over-13 : (body entry exit : List ℕ) (n : ℕ) → length body ≡ largestBody + 1 → Writes (like 0 [] body 0) entry (Written n) exit → ⊥
+write-passes-not-over-13 body entry exit n e kept = passed-over (like 0 [] body 0) entry n 13 (refuses-13 body (length entry) e) (kept .0)
+
+refuses-14 : writing (like 0 [] [] 1) 21 ≡ refused 14
+unfolding writing badFlags badEnd hasZero strayIntegrity
+refuses-14 = refl
+
+pub write-passes-not-over-14 : (n : ℕ) (exit : List ℕ) → Writes (like 0 [] [] 1) (replicate 21 0) (Written n) exit → ⊥
+write-passes-not-over-14 n exit kept = passed-over (like 0 [] [] 1) (replicate 21 0) n 14 refuses-14 (kept .0)
+
+refuses-15 : writing givenM 20 ≡ refused 15
+unfolding writing message beforeField fieldNumber badFlags badEnd hasZero strayIntegrity
+refuses-15 = refl
+
+pub write-passes-not-over-15 : (n : ℕ) (exit : List ℕ) → Writes givenM (replicate 20 0) (Written n) exit → ⊥
+write-passes-not-over-15 n exit kept = passed-over givenM (replicate 20 0) n 15 refuses-15 (kept .0)
+
+-- ---- golden files: a record whose length is 20, one with a byte behind its message, and one of another header version
+
+abbrev shortLength : List ℕ
+shortLength = 0 ∷ 20 ∷ replicate 510 0
+
+abbrev byteBehind : List ℕ
+byteBehind = 0 ∷ 21 ∷ M ++ 1 ∷ replicate 488 0
+
+abbrev otherVersion : List ℕ
+otherVersion = 0 ∷ 21 ∷ set M 0 3 ++ replicate 489 0
+
+bad-records :
+    (checking shortLength ≡ check.refused 0 (plainly 23))
+    × ((checking byteBehind ≡ check.refused 0 (plainly 24)) × (checking otherVersion ≡ check.refused 0 (passingOn 25 2)))
+unfolding checking checkFrom badFile judgedAt judging badLength storedLength storedWord allZero twoAt reading heading
+bad-records = (refl, (refl, refl))
+
+counted-not-refused : (n k : ℕ) (r : Refused) → counted n ≡ check.refused k r → ⊥
+counted-not-refused n k r e = let z : _≡_ {A = ℕ} 0 1 = cc in omega arith
+
+pub check-passes-not-over-23 : (n : ℕ) → Checks shortLength (Count n) → ⊥
+check-passes-not-over-23 n kept = counted-not-refused n 0 (plainly 23) (kept ∙ bad-records .0)
+
+pub check-passes-not-over-24 : (n : ℕ) → Checks byteBehind (Count n) → ⊥
+check-passes-not-over-24 n kept = counted-not-refused n 0 (plainly 24) (kept ∙ bad-records .1 .0)
+
+pub check-passes-not-over-25 : (n : ℕ) → Checks otherVersion (Count n) → ⊥
+check-passes-not-over-25 n kept = counted-not-refused n 0 (passingOn 25 2) (kept ∙ bad-records .1 .1)
+
+-- ---- compare: a radio's message that reading refuses
+
+unread-radio : comparing (recordOf M) 0 (take 20 M) ≡ compare.declined (passingOn 31 1)
+unfolding comparing badFile judgedAt judging badLength storedLength storedWord allZero recordOf twoAt
+unread-radio = rw (starred .a .0, starred .b)
+
+pub compare-passes-not-over-31 : (entry exit : List ℕ) → Compares (recordOf M) 0 (take 20 M) entry Same exit → ⊥
+unfolding compare.answerOf
+compare-passes-not-over-31 entry exit kept =
+    let told : compare.same ≡ compare.unlike (passingOn 31 1) = kept .0 ∙ ap compare.answerOf unread-radio in
+    let z : _≡_ {A = ℕ} 0 1 = cc in
+    omega arith
+
+-- ---- make: any message of 511 bytes, and one that reading refuses
+
+made-not-declined : (r : Refused) → made ≡ make.declined r → ⊥
+made-not-declined r e = let z : _≡_ {A = ℕ} 0 1 = cc in omega arith
+
+pub make-passes-not-over-33 : (m entry exit : List ℕ) → length m ≡ 511 → Makes m entry Made exit → ⊥
+unfolding making
+make-passes-not-over-33 m entry exit e kept =
+    made-not-declined (plainly 33) (rw (lt-ltb longestMessage (length m) (omega (arith, e))) at (kept .0))
+
+pub make-passes-not-over-34 : (entry exit : List ℕ) → Makes (take 20 M) entry Made exit → ⊥
+unfolding making
+make-passes-not-over-34 entry exit kept = made-not-declined (passingOn 34 1) (rw (starred .b) at (kept .0))
