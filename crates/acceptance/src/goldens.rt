@@ -57,28 +57,30 @@ pub fn checks() {
     checked(b"a length of 20 in record 0", &file);
 }
 
+// Three records, of which the last is the first once more.
 pub fn finds() {
-    let first = name(6000, 1);
-    let second = name(6001, 2);
     let mut file = [0u8; 3 * Record::SIZE];
-    lay_two(&mut file);
-    put(
-        &mut file,
-        2,
-        b"\x04\x17\x70\x01\x00\x00\x00\x00\x00\x00\x00\x01\x00\x00\x00\x00\x00\x00\x00\x00\x00",
-    );
-    found(b"record 1", &file, second);
-    found(b"the first of two alike", &file, first);
+    lay_three(&mut file);
+    found(b"record 1", &file, name(6001, 2));
+    found(b"the first of two alike", &file, name(6000, 1));
     found(b"another number", &file, name(6000, 2));
     found(b"another type", &file, name(6001, 1));
+}
+
+pub fn finds_beside_bad_records() {
+    let mut file = [0u8; 3 * Record::SIZE];
+    lay_three(&mut file);
     store(&mut file, 1026, 3);
-    found(b"record 1 before a bad record", &file, second);
+    found(b"record 1 before a bad record", &file, name(6001, 2));
     found(b"nothing before a bad record", &file, name(6000, 2));
     store(&mut file, 2, 3);
-    found(b"a bad record first", &file, second);
-    found(b"in no bytes", b"", first);
+    found(b"a bad record first", &file, name(6001, 2));
+}
+
+pub fn finds_in_no_file() {
+    found(b"in no bytes", b"", name(6000, 1));
     let short = [0u8; SHORT];
-    found(b"in 511 bytes", &short, first);
+    found(b"in 511 bytes", &short, name(6000, 1));
 }
 
 pub fn steps() {
@@ -216,6 +218,15 @@ fn lay_two(file: &mut [u8]) {
         file,
         1,
         b"\x04\x17\x71\x01\x09\x00\x00\x0c\x00\x00\x00\x02\x65\x53\xf1\x00\x1b\x01\x2c\x00\x08\x75\x70\x2e\x6c\x2e\x35\x35\x36\x30\x3a\x72\x00\x63\x73\x78\x2e\x62\x3a\x63\x62\x74\x6d\x00\x68\x65\x6c\x6c\x6f\x2c\x20\x72\x61\x64\x69\x6f\xec\x5f\x35\x94",
+    );
+}
+
+fn lay_three(file: &mut [u8]) {
+    lay_two(file);
+    put(
+        file,
+        2,
+        b"\x04\x17\x70\x01\x00\x00\x00\x00\x00\x00\x00\x01\x00\x00\x00\x00\x00\x00\x00\x00\x00",
     );
 }
 

@@ -19,16 +19,7 @@ const BLANK: u8 = 0xEE;
 pub fn written_and_read_back() {
     let addressed = Routing::Present { ttl: 300, qos: 8 };
     let mut exact = [BLANK; 21];
-    attempt(
-        b"kind none",
-        header(0),
-        Routing::Absent,
-        b"",
-        b"",
-        b"",
-        0,
-        &mut exact,
-    );
+    bare(b"kind none", 0, 0, &mut exact);
     let mut wide = [BLANK; 56];
     attempt(
         b"kind CRC",
@@ -64,50 +55,18 @@ pub fn written_and_read_back() {
     );
 }
 
-pub fn refusals() {
-    let addressed = Routing::Present { ttl: 300, qos: 8 };
+pub fn refused_flags() {
+    let mut buffer = [BLANK; 30];
+    bare(b"11, kind 3", 24, 0, &mut buffer);
+    bare(b"11, bit 5", 32, 0, &mut buffer);
+}
+
+pub fn refused_addresses() {
     let long = [0x61u8; 64];
     let mut buffer = [BLANK; 30];
-    attempt(
-        b"11, kind 3",
-        header(24),
-        Routing::Absent,
-        b"",
-        b"",
-        b"",
-        0,
-        &mut buffer,
-    );
-    attempt(
-        b"11, bit 5",
-        header(32),
-        Routing::Absent,
-        b"",
-        b"",
-        b"",
-        0,
-        &mut buffer,
-    );
-    attempt(
-        b"12, 64 letters",
-        header(0),
-        addressed,
-        &long,
-        b"",
-        b"",
-        0,
-        &mut buffer,
-    );
-    attempt(
-        b"12, a zero inside",
-        header(0),
-        addressed,
-        b"",
-        b"a\x00b",
-        b"",
-        0,
-        &mut buffer,
-    );
+    ends(b"12, 64 letters", &long, b"", 0, &mut buffer);
+    ends(b"12, a zero inside", b"", b"a\x00b", 0, &mut buffer);
+    ends(b"12 before 14 and 15", &long, b"", 1, &mut buffer);
     attempt(
         b"12, an address without addressing",
         header(0),
@@ -118,26 +77,16 @@ pub fn refusals() {
         0,
         &mut buffer,
     );
-    attempt(
-        b"14, kind none",
-        header(0),
-        Routing::Absent,
-        b"",
-        b"",
-        b"",
-        1,
-        &mut buffer,
-    );
-    attempt(
-        b"14, kind CRC",
-        header(8),
-        Routing::Absent,
-        b"",
-        b"",
-        b"",
-        1,
-        &mut buffer,
-    );
+}
+
+pub fn refused_numbers() {
+    let mut buffer = [BLANK; 30];
+    bare(b"14, kind none", 0, 1, &mut buffer);
+    bare(b"14, kind CRC", 8, 1, &mut buffer);
+}
+
+pub fn refused_room() {
+    let mut buffer = [BLANK; 30];
     attempt(
         b"15, a byte short",
         header(0),
@@ -148,27 +97,8 @@ pub fn refusals() {
         0,
         &mut buffer,
     );
-    attempt(
-        b"12 before 14 and 15",
-        header(0),
-        addressed,
-        &long,
-        b"",
-        b"",
-        1,
-        &mut buffer,
-    );
     let mut none = [BLANK; 0];
-    attempt(
-        b"15, no buffer",
-        header(0),
-        Routing::Absent,
-        b"",
-        b"",
-        b"",
-        0,
-        &mut none,
-    );
+    bare(b"15, no buffer", 0, 0, &mut none);
 }
 
 pub fn rewritten() {
@@ -185,6 +115,35 @@ pub fn rewritten() {
         &mut short,
     );
     again(b"1, no bytes", b"", &mut short);
+}
+
+// With no addressing and no body.
+fn bare(name: &[u8], flags: u8, application: u32, buffer: &mut [u8]) {
+    attempt(
+        name,
+        header(flags),
+        Routing::Absent,
+        b"",
+        b"",
+        b"",
+        application,
+        buffer,
+    );
+}
+
+// Of kind none, with these ends and no body.
+fn ends(name: &[u8], source: &[u8], destination: &[u8], application: u32, buffer: &mut [u8]) {
+    let addressed = Routing::Present { ttl: 300, qos: 8 };
+    attempt(
+        name,
+        header(0),
+        addressed,
+        source,
+        destination,
+        b"",
+        application,
+        buffer,
+    );
 }
 
 fn header(flags: u8) -> Header {

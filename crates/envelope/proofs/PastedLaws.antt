@@ -4,7 +4,7 @@ use mathlib.Core.Path.{_≡_, ap}
 use mathlib.Core.List.{List, [], _∷_, _++_, append-assoc}
 use Prim.Native.Nat.{ℕ, suc, _≤_, _<_, _+_}
 use native.Mathlib.Omega.{arith}
-use lib.ListN.{length, take, drop, set, length-append, length-drop}
+use lib.ListN.{length, take, drop, set, length-append}
 use lib.Seq.{length-take-le, take-at, drop-append-add, drop-drop, drop-cons, set-at, append-snoc, paste-zero}
 use lib.ListN.{getD}
 use native.Mathlib.Nat.{add-assoc}
@@ -13,11 +13,6 @@ use Rattle.envelope.specs.Helpers.{pasted}
 -- what stands up to the end of the part
 front-length : (d : List ℕ) (place : ℕ) (p : List ℕ) → place ≤ length d → length (take place d ++ p) ≡ place + length p
 front-length d place p h = rw (length-append, length-take-le place d h)
-
-pub pasted-length : (d : List ℕ) (place : ℕ) (p : List ℕ) → place + length p ≤ length d → length (pasted d place p) ≡ length d
-unfolding pasted
-pasted-length d place p h =
-    rw (length-append (take place d ++ p) (drop (place + length p) d), front-length d place p (omega arith), length-drop) (omega arith)
 
 pub pasted-more : (d : List ℕ) (place : ℕ) (p q : List ℕ) → place + length p ≤ length d
     → pasted (pasted d place p) (place + length p) q ≡ pasted d place (p ++ q)

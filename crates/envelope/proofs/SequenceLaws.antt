@@ -14,10 +14,6 @@ pub steps-are : (old new d : ℕ) → old < 2 ^ 32 → new < 2 ^ 32 → d < 2 ^ 
 unfolding stepsOn
 steps-are old new d a b k e = omega arith
 
-pub steps-lt : (old new : ℕ) → stepsOn old new < 2 ^ 32
-unfolding stepsOn
-steps-lt old new = omega arith
-
 pub tells-ahead : (d : ℕ) → 2 ≤ d → d < 2 ^ 31 → ahead d ≡ sequenceOf (signed d)
 tells-ahead d a b =
     let e : d ≡ suc (suc (d - 2)) = omega arith in

@@ -11,7 +11,6 @@ use Rattle.envelope.specs.Layout.{largestMessage}
 use Rattle.envelope.specs.Promise.{Bytes}
 use Rattle.envelope.specs.Reading.{reading}
 use Rattle.envelope.specs.Told.{toldFault}
-use Rattle.envelope.specs.declared.reader.Refusal as code
 use Rattle.envelope.specs.declared.rewriter.Rewriting.{Rewriting}
 use Rattle.envelope.specs.declared.rewriter.Rewriting.the-variants.{Written, Unread, NoRoom}
 

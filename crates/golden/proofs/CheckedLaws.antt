@@ -11,7 +11,6 @@ use Rattle.golden.specs.Checking.{CheckAnswer, counted, unlessBad, check
 use Rattle.golden.specs.Checking as check
 use Rattle.golden.specs.File.{badFile, countOf, judgedAt}
 use Rattle.golden.specs.Finding.{NameFields, hasName, found, findFrom, finding}
-use Rattle.golden.specs.Finding as find
 use Rattle.golden.specs.Record.{Judged, good, bad}
 use Rattle.golden.specs.Refusal.{plainly}
 use Rattle.golden.specs.Theorems.{GoodAt, CheckedAreGood, NotNamed, FirstNamed, first, none, FindsTheFirst}

@@ -59,9 +59,6 @@ xor-undo a b = xor-assoc a b b ∙ ap (bitXor a) (xor-self b) ∙ xor-zero-r a
 pub xor-cancel : (a b c : ℕ) → bitXor a c ≡ bitXor b c → a ≡ b
 xor-cancel a b c e = sym (xor-undo a c) ∙ ap (λ (x : ℕ). bitXor x c) e ∙ xor-undo b c
 
-pub xor-cancel-l : (a b c : ℕ) → bitXor c a ≡ bitXor c b → a ≡ b
-xor-cancel-l a b c e = xor-cancel a b c (xor-comm a c ∙ e ∙ xor-comm c b)
-
 -- numbers whose exclusive or is nothing are the same
 pub xor-zero : (a b : ℕ) → bitXor a b ≡ 0 → a ≡ b
 xor-zero a b e = xor-cancel a b b (e ∙ sym (xor-self b))
