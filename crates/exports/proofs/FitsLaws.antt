@@ -1,7 +1,7 @@
 -- Each answer fits its slots, by the sizes that the layers below promise; and the slots come back from the word.
 -- The laws of sizes are those of `envelope` and `golden`; here they are only read in slots.
 use mathlib.Core.List.{List}
-use mathlib.Core.Path.{_≡_, sym, subst}
+use mathlib.Core.Path.{_≡_}
 use Prim.Native.Nat.{ℕ, _+_, _*_, _/_, _%_, _≤_, _<_, _^_}
 use native.Mathlib.Omega.{arith}
 use Rattle.envelope.specs.Layout.{largestMessage}
@@ -34,7 +34,7 @@ write-in (wrote n) h = omega (arith, h)
 write-in (barred n) h = omega arith
 
 pub write-fits : (g : Given) (room : ℕ) (a : WriteAnswer) → a ≡ write.answerOf (writing g room) → writeSlots a .value < 2 ^ 32
-write-fits g room a e = write-in a (subst (λ (x : WriteAnswer). wroteLength x ≤ largestMessage) (sym e) (writes-no-longer g room))
+write-fits g room a e = rw e (write-in (write.answerOf (writing g room)) (writes-no-longer g room))
 
 rewrite-in : (a : RewriteAnswer) → rewroteLength a ≤ largestMessage → rewriteSlots a .value < 2 ^ 32
 rewrite-in (rewrote n) h = omega (arith, h)
@@ -42,22 +42,21 @@ rewrite-in (unread r) h = omega arith
 rewrite-in (rewrite.barred n) h = omega arith
 
 pub rewrite-fits : (s : List ℕ) (room : ℕ) (a : RewriteAnswer) → Bytes s → a ≡ rewriting s room → rewriteSlots a .value < 2 ^ 32
-rewrite-fits s room a bytes e =
-    rewrite-in a (subst (λ (x : RewriteAnswer). rewroteLength x ≤ largestMessage) (sym e) (rewrites-no-longer s room bytes))
+rewrite-fits s room a bytes e = rw e (rewrite-in (rewriting s room) (rewrites-no-longer s room bytes))
 
 count-in : (a : CountAnswer) → countedNumber a ≤ mostRecords → countSlots a .count < 2 ^ 16
 count-in (listing.counted n) h = omega (arith, h)
 count-in (listing.refused r) h = omega arith
 
 pub count-fits : (f : List ℕ) (a : CountAnswer) → a ≡ counting f → countSlots a .count < 2 ^ 16
-count-fits f a e = count-in a (subst (λ (x : CountAnswer). countedNumber x ≤ mostRecords) (sym e) (count-is-few f))
+count-fits f a e = rw e (count-in (counting f) (count-is-few f))
 
 check-in : (a : CheckAnswer) → checkedNumber a ≤ mostRecords → checkSlots a .count < 2 ^ 16
 check-in (counted n) h = omega (arith, h)
 check-in (refused n r) h = omega (arith, h)
 
 pub check-fits : (f : List ℕ) (a : CheckAnswer) → a ≡ checking f → checkSlots a .count < 2 ^ 16
-check-fits f a e = check-in a (subst (λ (x : CheckAnswer). checkedNumber x ≤ mostRecords) (sym e) (check-names-few f))
+check-fits f a e = rw e (check-in (checking f) (check-names-few f))
 
 find-in : (a : FindAnswer) → (openedNumber a ≤ mostRecords) × (foundNumber a ≤ mostRecords)
     → (findSlots a .count < 2 ^ 16) × (findSlots a .value < 2 ^ 32)
@@ -66,9 +65,7 @@ find-in (find.refused r opened) h = (omega (arith, h .0), omega arith)
 
 pub find-fits : (f : List ℕ) (name : NameFields) (a : FindAnswer) → a ≡ finding f name
     → (findSlots a .count < 2 ^ 16) × (findSlots a .value < 2 ^ 32)
-find-fits f name a e =
-    find-in a
-    (subst (λ (x : FindAnswer). (openedNumber x ≤ mostRecords) × (foundNumber x ≤ mostRecords)) (sym e) (find-opens-few f name))
+find-fits f name a e = rw e (find-in (finding f name) (find-opens-few f name))
 
 step-in : (a : StepAnswer) (on : ℕ) → reachedSize a ≤ longestMessage → stepSlots a on .value < 2 ^ 32
 step-in (message part) on h = omega (arith, h)
@@ -76,7 +73,7 @@ step-in (step.refused r) on h = omega arith
 step-in end on h = omega arith
 
 pub step-fits : (f : List ℕ) (n : ℕ) (a : StepAnswer) (on : ℕ) → a ≡ stepAt f n → stepSlots a on .value < 2 ^ 32
-step-fits f n a on e = step-in a on (subst (λ (x : StepAnswer). reachedSize x ≤ longestMessage) (sym e) (step-reaches-short f n))
+step-fits f n a on e = rw e (step-in (stepAt f n) on (step-reaches-short f n))
 
 compare-in : (a : CompareAnswer) → differenceTotal a ≤ largestMessage → compareSlots a .value < 2 ^ 32
 compare-in same h = omega arith
@@ -85,8 +82,7 @@ compare-in (unlike r) h = omega arith
 
 pub compare-fits : (f : List ℕ) (n : ℕ) (radio : List ℕ) (a : CompareAnswer) → Bytes radio → a ≡ answerOf (comparing f n radio)
     → compareSlots a .value < 2 ^ 32
-compare-fits f n radio a bytes e =
-    compare-in a (subst (λ (x : CompareAnswer). differenceTotal x ≤ largestMessage) (sym e) (compare-totals-few f n radio bytes))
+compare-fits f n radio a bytes e = rw e (compare-in (answerOf (comparing f n radio)) (compare-totals-few f n radio bytes))
 
 -- ---- the slots come back
 
