@@ -1,7 +1,7 @@
 // The byte editor's story: a message of kind CRC with one byte or two neighbours changed, and the file checked.
 // An edit that changes the declared kind is left out, since it makes another message.
 ghost use Prim.Native.Nat.{_≤_};
-use crate::goldens::checked;
+use crate::golden_lines::checked;
 use crate::goldens::put;
 use crate::printing::end_line;
 use crate::printing::number;

@@ -1,9 +1,9 @@
--- `goldens::alike` stays inside the bytes, and ends.
+-- `golden_lines::alike` stays inside the bytes, and ends.
 use Prim.Native.Nat.{_-_, _≤_}
 use borrow.Author.Needs.{needs}
 use lib.ListN.{length}
-use Rattle.acceptance.proofs.goldens.alike.Statement.{statement}
-use Rattle.acceptance.proofs.goldens.alike.Tie as tie
+use Rattle.acceptance.proofs.golden_lines.alike.Statement.{statement}
+use Rattle.acceptance.proofs.golden_lines.alike.Tie as tie
 
 abbrev Inv-loop : tie.InvT-loop
 Inv-loop bytes byte i₀ i = i ≤ length bytes

@@ -1,9 +1,9 @@
--- `goldens::numbers` stays inside the list, and ends.
+-- `golden_lines::numbers` stays inside the list, and ends.
 use Prim.Native.Nat.{_-_, _≤_}
 use borrow.Author.Needs.{needs}
 use lib.ListN.{length}
-use Rattle.acceptance.proofs.goldens.numbers.Statement.{statement}
-use Rattle.acceptance.proofs.goldens.numbers.Tie as tie
+use Rattle.acceptance.proofs.golden_lines.numbers.Statement.{statement}
+use Rattle.acceptance.proofs.golden_lines.numbers.Tie as tie
 
 abbrev Inv-loop : tie.InvT-loop
 Inv-loop list i₀ i = i ≤ length list

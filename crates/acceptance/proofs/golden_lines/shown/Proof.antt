@@ -1,10 +1,10 @@
--- `goldens::shown` takes parts of the buffer.
+-- `golden_lines::shown` takes parts of the buffer.
 use mathlib.Core.Path.{sym}
 use native.Mathlib.Omega.{arith}
 use borrow.Author.Needs.{needs}
 use lib.Seq.{length-take-le}
-use Rattle.acceptance.proofs.goldens.shown.Statement.{statement}
-use Rattle.acceptance.proofs.goldens.shown.Tie as tie
+use Rattle.acceptance.proofs.golden_lines.shown.Statement.{statement}
+use Rattle.acceptance.proofs.golden_lines.shown.Tie as tie
 
 slice-aggregate-front : tie.Need-slice-aggregate-front
 slice-aggregate-front c = sym (length-take-le 24 (c .before .before .before .args .buffer .now) (omega arith))
