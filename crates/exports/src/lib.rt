@@ -3,5 +3,6 @@
 mod answers;
 pub mod envelopes;
 pub mod goldens;
-pub mod routing;
+pub mod qos;
 pub mod sums;
+pub mod timing;

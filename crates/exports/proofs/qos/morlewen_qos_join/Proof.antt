@@ -1,11 +1,11 @@
--- `routing::morlewen_qos_join`: the promise of `join`, told in a word.
+-- `qos::morlewen_qos_join`: the promise of `join`, told in a word.
 use mathlib.Core.Path.{ap, _∙_}
 use borrow.Author.Needs.{needs}
 use Rattle.envelope.specs.Qos.{QosAnswer}
 use Rattle.exports.specs.Envelopes.{joinSlots}
 use Rattle.exports.specs.Word.{word}
-use Rattle.exports.proofs.routing.morlewen_qos_join.Statement.{statement}
-use Rattle.exports.proofs.routing.morlewen_qos_join.Tie as tie
+use Rattle.exports.proofs.qos.morlewen_qos_join.Statement.{statement}
+use Rattle.exports.proofs.qos.morlewen_qos_join.Tie as tie
 
 join-requires : tie.Need-join-requires
 join-requires c κs = search needs

@@ -1,12 +1,12 @@
--- `routing::sequence_word`: one case for each answer; steps are numbers of 32 bits.
+-- `timing::sequence_word`: one case for each answer; steps are numbers of 32 bits.
 use mathlib.Core.Path.{ap, sym, _∙_}
 use borrow.Author.Needs.{needs}
 use Rattle.envelope.specs.Sequence.{toldSequence}
 use Rattle.envelope.specs.declared.sequence.Sequence.{Sequence}
 use Rattle.exports.specs.Envelopes.{sequenceSlots}
 use Rattle.exports.specs.Word.{word}
-use Rattle.exports.proofs.routing.sequence_word.Statement.{statement}
-use Rattle.exports.proofs.routing.sequence_word.Tie as tie
+use Rattle.exports.proofs.timing.sequence_word.Statement.{statement}
+use Rattle.exports.proofs.timing.sequence_word.Tie as tie
 
 enum-told : tie.Need-enum-told
 enum-told c = search needs

@@ -1,9 +1,9 @@
--- `routing::morlewen_qos_split`: the promise of `split`, told in five numbers.
+-- `qos::morlewen_qos_split`: the promise of `split`, told in five numbers.
 use mathlib.Core.Path.{ap}
 use borrow.Author.Needs.{needs}
 use Rattle.exports.specs.Envelopes.{partNumbers}
-use Rattle.exports.proofs.routing.morlewen_qos_split.Statement.{statement}
-use Rattle.exports.proofs.routing.morlewen_qos_split.Tie as tie
+use Rattle.exports.proofs.qos.morlewen_qos_split.Statement.{statement}
+use Rattle.exports.proofs.qos.morlewen_qos_split.Tie as tie
 
 split-requires : tie.Need-split-requires
 split-requires c κs = search needs

@@ -1,11 +1,11 @@
--- `routing::morlewen_sequence`: the promise of `sequence::judge`, told in a word.
+-- `timing::morlewen_sequence`: the promise of `sequence::judge`, told in a word.
 use mathlib.Core.Path.{ap, _∙_}
 use borrow.Author.Needs.{needs}
 use Rattle.envelope.specs.Sequence.{SequenceAnswer}
 use Rattle.exports.specs.Envelopes.{sequenceSlots}
 use Rattle.exports.specs.Word.{word}
-use Rattle.exports.proofs.routing.morlewen_sequence.Statement.{statement}
-use Rattle.exports.proofs.routing.morlewen_sequence.Tie as tie
+use Rattle.exports.proofs.timing.morlewen_sequence.Statement.{statement}
+use Rattle.exports.proofs.timing.morlewen_sequence.Tie as tie
 
 judge-requires : tie.Need-judge-requires
 judge-requires c κs = search needs

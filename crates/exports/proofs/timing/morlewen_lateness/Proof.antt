@@ -1,4 +1,4 @@
--- `routing::morlewen_lateness`: the promise of `lateness::judge`, of an envelope with this time, these flags and this TTL.
+-- `timing::morlewen_lateness`: the promise of `lateness::judge`, of an envelope with this time, these flags and this TTL.
 use mathlib.Core.Path.{ap, _∙_}
 use borrow.Author.Needs.{needs}
 use Rattle.envelope.specs.Fields.{AddressingFields}
@@ -6,8 +6,8 @@ use Rattle.envelope.specs.Lateness.{lateness, latenessOf}
 use Rattle.envelope.specs.Told.{toldEnvelope}
 use Rattle.envelope.specs.declared.fields.Envelope.{Envelope}
 use Rattle.exports.specs.Envelopes.{latenessNumber}
-use Rattle.exports.proofs.routing.morlewen_lateness.Statement.{statement}
-use Rattle.exports.proofs.routing.morlewen_lateness.Tie as tie
+use Rattle.exports.proofs.timing.morlewen_lateness.Statement.{statement}
+use Rattle.exports.proofs.timing.morlewen_lateness.Tie as tie
 
 addressing-of-requires : tie.Need-addressing-of-requires
 addressing-of-requires c κs = search needs

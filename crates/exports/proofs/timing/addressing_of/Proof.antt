@@ -1,8 +1,8 @@
--- `routing::addressing_of`: absent at 0, else a TTL and nothing more.
+-- `timing::addressing_of`: absent at 0, else a TTL and nothing more.
 use borrow.Author.Needs.{needs}
 use borrow.Author.Tests.{eq-eqb, ne-eqb}
-use Rattle.exports.proofs.routing.addressing_of.Statement.{statement}
-use Rattle.exports.proofs.routing.addressing_of.Tie as tie
+use Rattle.exports.proofs.timing.addressing_of.Statement.{statement}
+use Rattle.exports.proofs.timing.addressing_of.Tie as tie
 
 returns : tie.Need-returns
 returns c = rw (eq-eqb _ _ (c .if1 .taken))

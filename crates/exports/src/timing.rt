@@ -1,10 +1,9 @@
-// What an envelope's numbers tell, for C: QoS, lateness and sequence.
+// Time and sequence, for C.
 ghost use mathlib.Core.Path.{_≡_};
 ghost use Rattle.envelope.specs.Lateness.{toldLateness};
-ghost use Rattle.envelope.specs.Qos.{toldJoining};
 ghost use Rattle.envelope.specs.Sequence.{Distance, toldSequence};
 ghost use Rattle.envelope.specs.Told.{toldAddressing};
-ghost use Rattle.exports.specs.Envelopes.{SplitsForC, qosOf, joinSlots, JoinsForC, latenessNumber, addressingFor, JudgesLatenessForC, sequenceSlots, JudgesSequenceForC};
+ghost use Rattle.exports.specs.Envelopes.{latenessNumber, addressingFor, JudgesLatenessForC, sequenceSlots, JudgesSequenceForC};
 ghost use Rattle.exports.specs.Word.{word};
 use crate::answers::answer;
 use envelope::Addressing;
@@ -14,47 +13,8 @@ use envelope::Integrity;
 use envelope::Part;
 use envelope::lateness;
 use envelope::lateness::Lateness;
-use envelope::qos;
-use envelope::qos::Joining;
-use envelope::qos::Qos;
 use envelope::sequence;
 use envelope::sequence::Sequence;
-
-// How many numbers a QoS field is.
-pub const QOS_PARTS: usize = 5;
-
-#[no_mangle]
-pub extern "C" fn morlewen_qos_split(field: u16, parts: &mut [u8; QOS_PARTS])
-    ensures { λ _. ⌜ SplitsForC field (now (parts .exit)) ⌝ }
-{
-    let split = qos::split(field);
-    *parts = [
-        split.service_request,
-        split.special_handling,
-        split.network_preference,
-        split.priority,
-        split.class,
-    ];
-}
-
-#[no_mangle]
-pub extern "C" fn morlewen_qos_join(
-    service_request: u8,
-    special_handling: u8,
-    network_preference: u8,
-    priority: u8,
-    class: u8,
-) -> u64
-    ensures { λ r. ⌜ JoinsForC (qosOf «service_request» «special_handling» «network_preference» priority class) r ⌝ }
-{
-    join_word(qos::join(Qos {
-        service_request,
-        special_handling,
-        network_preference,
-        priority,
-        class,
-    }))
-}
 
 #[no_mangle]
 pub extern "C" fn morlewen_lateness(flags: u8, time: u32, addressed: u8, ttl: u16, clock: u64) -> u8
@@ -84,15 +44,6 @@ pub extern "C" fn morlewen_sequence(old: u32, new: u32) -> u64
     ensures { λ r. ⌜ JudgesSequenceForC old new r ⌝ }
 {
     sequence_word(sequence::judge(old, new))
-}
-
-fn join_word(joining: Joining) -> u64
-    ensures { λ r. ⌜ r ≡ word (joinSlots (toldJoining joining)) ⌝ }
-{
-    match joining {
-        Joining::Joined(field) => answer(0, 0, 0, field as usize),
-        Joining::DoesNotFit => answer(41, 0, 0, 0),
-    }
 }
 
 // Only the TTL matters to lateness.

@@ -1,12 +1,12 @@
--- `routing::join_word`: the field, or 41.
+-- `qos::join_word`: the field, or 41.
 use mathlib.Core.Path.{ap, sym, _∙_}
 use borrow.Author.Needs.{needs}
 use Rattle.envelope.specs.Qos.{toldJoining}
 use Rattle.envelope.specs.declared.qos.Joining.{Joining}
 use Rattle.exports.specs.Envelopes.{joinSlots}
 use Rattle.exports.specs.Word.{word}
-use Rattle.exports.proofs.routing.join_word.Statement.{statement}
-use Rattle.exports.proofs.routing.join_word.Tie as tie
+use Rattle.exports.proofs.qos.join_word.Statement.{statement}
+use Rattle.exports.proofs.qos.join_word.Tie as tie
 
 enum-known-joining : tie.Need-enum-known-joining
 enum-known-joining c = search needs
