@@ -29,6 +29,18 @@ static size_t contents(const char *name, uint8_t *buffer)
     return length;
 }
 
+/* A record's number. Ends the program where the word is none. */
+static size_t number(const char *word)
+{
+    char *end;
+    unsigned long n = strtoul(word, &end, 10);
+    if (end == word || *end != 0) {
+        fprintf(stderr, "judge: %s is no number\n", word);
+        exit(2);
+    }
+    return n;
+}
+
 static void print_places(const uint32_t *places, uint32_t total)
 {
     uint32_t listed = total < PLACES ? total : PLACES;
@@ -46,7 +58,7 @@ int main(int argc, char **argv)
         return 2;
     }
     size_t golden_length = contents(argv[1], golden);
-    size_t record = (size_t)strtoul(argv[2], NULL, 10);
+    size_t record = number(argv[2]);
     size_t radio_length = contents(argv[3], radio);
 
     uint64_t answer = morlewen_compare(golden, golden_length, record, radio, radio_length, places, PLACES);

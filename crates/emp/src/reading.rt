@@ -47,29 +47,29 @@ fn show_fields(accepted: Envelope, message: &[u8]) {
     let body = accepted.body;
     let addressing = accepted.addressing;
     let integrity = accepted.integrity;
-    show_front(accepted.header);
+    show_front(accepted.header, integrity);
     show_numbers(accepted.header, body.size);
     show_addressing(addressing, message);
     show_body(body, message);
     show_integrity(integrity);
 }
 
-fn show_front(header: Header) {
+fn show_front(header: Header, integrity: Integrity) {
     text_number(b"\nheader version        ", Envelope::VERSION as u64);
     text_number(b"\nmessage type          ", header.message_type as u64);
     text_number(b"\nmessage version       ", header.version as u64);
-    show_flags(header.flags);
+    show_flags(header.flags, integrity);
 }
 
-// The byte, and its parts from the lowest bit up.
-fn show_flags(flags: u8) {
+// The byte, and its parts from the lowest bit up; the kind as reading has it.
+fn show_flags(flags: u8, integrity: Integrity) {
     text(b"\nflags                 ");
     hex_byte(flags);
     text(b" (hex)");
     show_time_format(flags % 2);
     yes_or_no(b"\n  encrypted           ", flags / 2 % 2);
     yes_or_no(b"\n  compressed          ", flags / 4 % 2);
-    show_kind(flags / 8 % 4);
+    show_kind(integrity);
 }
 
 fn show_time_format(bit: u8) {
@@ -90,13 +90,12 @@ fn yes_or_no(name: &[u8], bit: u8) {
     text(b"yes");
 }
 
-// An accepted message has one of these three kinds.
-fn show_kind(kind: u8) {
+fn show_kind(integrity: Integrity) {
     text(b"\n  integrity kind      ");
-    match kind {
-        0 => text(b"0, none"),
-        1 => text(b"1, CRC"),
-        _ => text(b"2, application-specific"),
+    match integrity {
+        Integrity::None => text(b"0, none"),
+        Integrity::Crc(_) => text(b"1, CRC"),
+        Integrity::Application(_) => text(b"2, application-specific"),
     }
 }
 

@@ -89,7 +89,7 @@ ReadsForC bytes entry r exit = (r ≡ word (readSlots (reading bytes))) × (exit
 -- ---- writing
 
 -- 0 for no variable header; any other number for one of this TTL and QoS
-abbrev pub routingFor : (present ttl qos : ℕ) → RoutingFields
+abbrev pub routingFor : (given ttl qos : ℕ) → RoutingFields
 routingFor given ttl qos = cond (eqb given 0) unaddressed (addressed ttl qos)
 
 abbrev pub writeSlots : WriteAnswer → Slots
@@ -97,7 +97,7 @@ writeSlots (wrote n) = sized n
 writeSlots (barred n) = refusal n
 
 -- the numbers and slices of a call, as what a sender gives
-abbrev pub givenForC : (messageType version flags number time present ttl qos : ℕ) (source destination body : List ℕ) → ℕ → Given
+abbrev pub givenForC : (messageType version flags number time given ttl qos : ℕ) (source destination body : List ℕ) → ℕ → Given
 givenForC messageType version flags number time given ttl qos source destination body integrity =
     record {
       header = record { messageType = messageType; version = version; flags = flags; number = number; time = time };
@@ -157,15 +157,16 @@ latenessNumber inTime = 0
 latenessNumber late = 1
 latenessNumber noClock = 2
 
--- a TTL is all of the addressing that lateness looks at
+-- the place of an end that nothing looks at
 abbrev pub nowhere : Span
 nowhere = record { place = 0; size = 0 }
 
-abbrev pub addressingFor : (present ttl : ℕ) → AddressingFields
+-- 0 for absent; any other number for present with this TTL, which is all that lateness looks at
+abbrev pub addressingFor : (given ttl : ℕ) → AddressingFields
 addressingFor given ttl = cond (eqb given 0) absent (present ttl 0 nowhere nowhere)
 
 -- what `morlewen_lateness` promises
-abbrev pub JudgesLatenessForC : (flags time present ttl clock : ℕ) → ℕ → Type 0
+abbrev pub JudgesLatenessForC : (flags time given ttl clock : ℕ) → ℕ → Type 0
 JudgesLatenessForC flags time given ttl clock r = r ≡ latenessNumber (latenessOf (addressingFor given ttl) time flags clock)
 
 -- which of the four, and by how many numbers

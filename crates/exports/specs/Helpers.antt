@@ -1,4 +1,5 @@
--- The meaning of this crate's private type, which no promise of a public function cites.
+-- The meaning of this crate's private type, an addressing as seven numbers.
+-- No promise of a public function cites it.
 use Rattle.exports.specs.Envelopes.{EndNumbers}
 use Rattle.exports.specs.declared.envelopes.Ends.{Ends}
 

@@ -142,7 +142,7 @@ split-for-c-has-one-content = exports.only-splits-for-c
 pub join-for-c-has-one-answer : (f : QosFields) → Only₁ (JoinsForC f)
 join-for-c-has-one-answer = exports.only-joins-for-c
 
-pub lateness-for-c-has-one-answer : (flags time present ttl clock : ℕ) → Only₁ (JudgesLatenessForC flags time present ttl clock)
+pub lateness-for-c-has-one-answer : (flags time given ttl clock : ℕ) → Only₁ (JudgesLatenessForC flags time given ttl clock)
 lateness-for-c-has-one-answer = exports.only-judges-lateness-for-c
 
 pub sequence-for-c-has-one-answer : (old new : ℕ) → Only₁ (JudgesSequenceForC old new)

@@ -36,12 +36,14 @@ use Rattle.golden.specs.declared.comparer.Comparison.the-variants.{NoRecord}
 use Rattle.golden.specs.declared.maker.Making.the-variants.{Made, WrongBuffer}
 use Rattle.golden.specs.declared.stepper.Reached.the-variants.{End, NotAFile}
 use Rattle.golden.proofs.MadeLaws.{checks}
+use Rattle.exports.specs.Word.{slots, word, unword}
 use Rattle.sheet.specs.Cases.{M, likeM, C, fieldsOfC}
 use Rattle.sheet.proofs.Cases.{starred}
-use Rattle.sheet.proofs.Demand1.{a-refusal-writes-nothing, a-refused-comparison-keeps-the-list, a-refused-making-keeps-the-buffer}
+use Rattle.sheet.proofs.Demand1.{a-word-tells-its-slots, a-refusal-writes-nothing, a-refused-comparison-keeps-the-list, a-refused-making-keeps-the-buffer}
 use Rattle.sheet.proofs.Demand2.{written-then-read, written-buffer-then-read, read-then-written, same-fields-same-bytes, qos-joins-what-was-split, qos-splits-what-was-joined, file-walks-in-order, other-file-stays, checked-are-good, finds-the-first, made-is-good, never-a-beginning}
 use Rattle.sheet.proofs.Demand3.{four-bytes-show, thirty-two-bits-show, demand-3, demand-3-bits, golden-demand-3}
 use Rattle.sheet.proofs.WrongAnswers.{givenM, writes-M}
+use Rattle.sheet.proofs.WrongGolden.{checks-M}
 
 -- ---- the round trips, at M
 
@@ -96,9 +98,6 @@ wrong-buffer-keeps-it =
 
 abbrev file : List ℕ
 file = recordOf M
-
-checks-M : checking file ≡ counted 1
-checks-M = checks M (likeM absent 17 0) (omega arith) (starred .a .0)
 
 pub made-file-is-good : MadeGood M file
 made-file-is-good =
@@ -176,3 +175,9 @@ file-of-C =
     let declares : DeclaresCrc (messageOf (recordAt fileC 0)) = rw message-is-C declares-C in
     golden-demand-3 fileC fileC 1 1 0 0 bytes-of-file bytes-of-file checks-C checks-C (omega arith) declares declares
     (rw message-is-C (before (omega arith))) refl (λ i h. refl, λ i h. refl)
+
+-- ---- the answer word: 25 with 7, of record 3
+
+pub a-word-comes-back : unword (word (slots 25 7 3 0)) ≡ slots 25 7 3 0
+a-word-comes-back =
+    a-word-tells-its-slots (slots 25 7 3 0) (record { number = omega arith; reading = omega arith; count = omega arith; value = omega arith })

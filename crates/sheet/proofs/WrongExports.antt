@@ -3,9 +3,8 @@
 use mathlib.Core.List.{List, [], _∷_}
 use mathlib.Core.Path.{ap, _∙_}
 use Prim.Native.Nat.{ℕ, _+_, _*_}
-use native.Mathlib.Omega.{arith}
 use lib.ListN.{length, take, getD, replicate}
-use Rattle.envelope.specs.Fields.{Answer, absent}
+use Rattle.envelope.specs.Fields.{Answer}
 use Rattle.envelope.specs.Lateness.{latenessOf}
 use Rattle.envelope.specs.Qos.{splitting, joining}
 use Rattle.envelope.specs.Sequence.{stepsOn}
@@ -18,14 +17,14 @@ use Rattle.golden.specs.Finding.{findFrom, finding}
 use Rattle.golden.specs.Listing.{counting, entryAt}
 use Rattle.golden.specs.Making.{making, recordOf}
 use Rattle.golden.specs.Stepping.{stepAt, nextAfter}
-use Rattle.golden.proofs.MadeLaws.{checks}
 use Rattle.exports.specs.Envelopes.{readSlots, fieldsAfter, ReadsForC, writeSlots, WritesForC, RewritesForC, qosOf, SplitsForC, JoinsForC, JudgesLatenessForC, JudgesSequenceForC}
 use Rattle.exports.specs.Goldens.{CountsForC, checkSlots, ChecksForC, nameOf, FindsForC, EntersForC, StepsForC, ComparesForC, MakesForC}
 use Rattle.exports.specs.Word.{slots, word}
-use Rattle.sheet.specs.Cases.{M, likeM}
+use Rattle.sheet.specs.Cases.{M}
 use Rattle.sheet.proofs.Apart.{apart}
 use Rattle.sheet.proofs.Cases.{starred}
 use Rattle.sheet.proofs.WrongAnswers.{givenM, writes-M}
+use Rattle.sheet.proofs.WrongGolden.{checks-M}
 
 -- ---- read: all turned away; fields written on a refusal
 
@@ -113,7 +112,7 @@ check-for-c-refuses-one-byte kept = apart 0 21 tt kept
 pub check-for-c-counts-its-records : ChecksForC (recordOf M) 0 → ⊥
 unfolding word
 check-for-c-counts-its-records kept =
-    apart 0 65536 tt (kept ∙ ap (λ (a : CheckAnswer). word (checkSlots a)) (checks M (likeM absent 17 0) (omega arith) (starred .a .0)))
+    apart 0 65536 tt (kept ∙ ap (λ (a : CheckAnswer). word (checkSlots a)) checks-M)
 
 -- ---- find: a record invented; an opened record invented
 

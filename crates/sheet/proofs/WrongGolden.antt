@@ -10,7 +10,7 @@ use Rattle.envelope.specs.Fields.{absent}
 use Rattle.envelope.specs.Numbers.{twoAt}
 use Rattle.envelope.specs.declared.reader.Fault.the-variants.{TooShort}
 use Rattle.golden.specs.Checking.{counted, checking, Checks}
-use Rattle.golden.specs.Comparing.{Outcome, same, different, listAfter, comparing, Compares}
+use Rattle.golden.specs.Comparing.{Outcome, positions, same, different, listAfter, comparing, answerOf, Compares}
 use Rattle.golden.specs.File.{badFile, judgedAt}
 use Rattle.golden.specs.Finding.{findFrom, finding, Finds}
 use Rattle.golden.specs.Listing.{counting, entryAt, Counts, Enters}
@@ -35,6 +35,17 @@ use Rattle.sheet.specs.Cases.{M, likeM}
 use Rattle.sheet.proofs.Apart.{apart}
 use Rattle.sheet.proofs.Cases.{starred}
 
+-- ---- the file of M's record
+
+pub checks-M : checking (recordOf M) ≡ counted 1
+checks-M = checks M (likeM absent 17 0) (omega arith) (starred .a .0)
+
+compares-M : answerOf (comparing (recordOf M) 0 M) ≡ same
+compares-M = compares M (likeM absent 17 0) (omega arith) (starred .a .0)
+
+compared-M : comparing (recordOf M) 0 M ≡ positions []
+compared-M = compared M (likeM absent 17 0) (omega arith) (starred .a .0)
+
 -- ---- check: one byte told as no records; a good file told as none
 
 pub check-refuses-one-byte : Checks (7 ∷ []) (checking.Count 0) → ⊥
@@ -42,7 +53,7 @@ unfolding checking badFile
 check-refuses-one-byte kept = let z : _≡_ {A = ℕ} 0 1 = cc in omega arith
 
 pub check-counts-its-records : Checks (recordOf M) (checking.Count 0) → ⊥
-check-counts-its-records kept = let z : counted 0 ≡ counted 1 = kept ∙ checks M (likeM absent 17 0) (omega arith) (starred .a .0) in let y : _≡_ {A = ℕ} 0 1 = cc in omega arith
+check-counts-its-records kept = let z : counted 0 ≡ counted 1 = kept ∙ checks-M in let y : _≡_ {A = ℕ} 0 1 = cc in omega arith
 
 -- ---- find: a record invented; an opened record invented; on past a bad record
 
@@ -113,7 +124,7 @@ entry-invents-no-line kept = let z : _≡_ {A = ℕ} 0 1 = cc in omega arith
 
 pub compare-invents-no-difference : (entry exit : List ℕ) → Compares (recordOf M) 0 M entry (comparison.Different 1) exit → ⊥
 compare-invents-no-difference entry exit kept =
-    let z : different 1 ≡ same = kept .0 ∙ compares M (likeM absent 17 0) (omega arith) (starred .a .0) in
+    let z : different 1 ≡ same = kept .0 ∙ compares-M in
     let y : _≡_ {A = ℕ} 0 1 = cc in
     omega arith
 
@@ -121,7 +132,7 @@ pub compare-keeps-the-places-beyond : Compares (recordOf M) 0 M (9 ∷ []) compa
 unfolding listAfter noted
 compare-keeps-the-places-beyond kept =
     apart 0 9 tt
-    (ap (λ (s : List ℕ). getD s 0 0) (kept .1 ∙ ap (λ (o : Outcome). listAfter o (9 ∷ [])) (compared M (likeM absent 17 0) (omega arith) (starred .a .0))))
+    (ap (λ (s : List ℕ). getD s 0 0) (kept .1 ∙ ap (λ (o : Outcome). listAfter o (9 ∷ [])) (compared-M)))
 
 pub compare-lists-nothing-on-a-refusal : Compares [] 0 M (9 ∷ []) comparison.NoRecord (0 ∷ []) → ⊥
 unfolding comparing listAfter badFile
