@@ -9,12 +9,12 @@
  *   - what is lent to be written overlaps nothing else that is lent in the same call.
  * Any content, any length and any number is fine.
  *
- * THE ANSWER. Where a function can refuse, it returns one 64-bit number of four slots:
+ * THE ANSWER. A function that can refuse, or that has two things to tell, returns one 64-bit number of four slots:
  *
  *   bits  0-7   number    0: done. Otherwise the refusal, by the numbers below.
  *   bits  8-15  reading   with 25, 31 and 34 the number (1-7) that reading gave; otherwise 0.
- *   bits 16-31  count     a number of records, where a function says so; otherwise 0.
- *   bits 32-63  value     done: a length or a total, where a function says so; otherwise 0.
+ *   bits 16-31  count     a number of records, or what else a function says; otherwise 0.
+ *   bits 32-63  value     done: a length, a total, or what else a function says; otherwise 0.
  *                         refused: kept for a place in the message; 0 in this version.
  *
  * A refusal writes nothing: every buffer, array and list that was lent holds what it held before the call. */

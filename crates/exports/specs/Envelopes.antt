@@ -136,8 +136,8 @@ abbrev pub joinSlots : QosAnswer → Slots
 joinSlots (joined q) = sized q
 joinSlots (qos.refused n) = refusal n
 
-abbrev pub qosOf : (serviceRequest specialHandling networkPreference priority class : ℕ) → QosFields
-qosOf serviceRequest specialHandling networkPreference priority class =
+abbrev pub qosFor : (serviceRequest specialHandling networkPreference priority class : ℕ) → QosFields
+qosFor serviceRequest specialHandling networkPreference priority class =
     record {
       serviceRequest = serviceRequest;
       specialHandling = specialHandling;

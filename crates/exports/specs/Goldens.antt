@@ -39,8 +39,8 @@ abbrev pub findSlots : FindAnswer → Slots
 findSlots (found n opened) = slots 0 0 opened n
 findSlots (find.refused r opened) = refusedWith r opened
 
-abbrev pub nameOf : (messageType number : ℕ) → NameFields
-nameOf messageType number = record { messageType = messageType; number = number }
+abbrev pub nameFor : (messageType number : ℕ) → NameFields
+nameFor messageType number = record { messageType = messageType; number = number }
 
 -- what `morlewen_find` promises
 abbrev pub FindsForC : List ℕ → NameFields → ℕ → Type 0

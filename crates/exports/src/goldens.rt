@@ -7,7 +7,7 @@ ghost use Rattle.golden.specs.Finding.{toldFinding};
 ghost use Rattle.golden.specs.Listing.{toldCounting, toldEntry};
 ghost use Rattle.golden.specs.Making.{toldMaking};
 ghost use Rattle.golden.specs.Stepping.{toldReached};
-ghost use Rattle.exports.specs.Goldens.{nameOf, countSlots, CountsForC, checkSlots, ChecksForC, findSlots, FindsForC, lineSlots, lineAfter, EntersForC, stepSlots, partAfter, StepsForC, compareSlots, ComparesForC, makeSlots, MakesForC};
+ghost use Rattle.exports.specs.Goldens.{nameFor, countSlots, CountsForC, checkSlots, ChecksForC, findSlots, FindsForC, lineSlots, lineAfter, EntersForC, stepSlots, partAfter, StepsForC, compareSlots, ComparesForC, makeSlots, MakesForC};
 ghost use Rattle.exports.specs.Word.{word};
 use crate::answers::answer;
 use crate::answers::record_refused;
@@ -48,7 +48,7 @@ pub extern "C" fn morlewen_check(file: &[u8]) -> u64
 
 #[no_mangle]
 pub extern "C" fn morlewen_find(file: &[u8], message_type: u16, number: u32) -> u64
-    ensures { λ r. ⌜ FindsForC (now (file .entry)) (nameOf «message_type» number) r ⌝ }
+    ensures { λ r. ⌜ FindsForC (now (file .entry)) (nameFor «message_type» number) r ⌝ }
 {
     let name = Name {
         message_type,

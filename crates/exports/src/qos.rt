@@ -1,7 +1,7 @@
 // The QoS field, for C.
 ghost use mathlib.Core.Path.{_≡_};
 ghost use Rattle.envelope.specs.Qos.{toldJoining};
-ghost use Rattle.exports.specs.Envelopes.{SplitsForC, qosOf, joinSlots, JoinsForC};
+ghost use Rattle.exports.specs.Envelopes.{SplitsForC, qosFor, joinSlots, JoinsForC};
 ghost use Rattle.exports.specs.Word.{word};
 use crate::answers::answer;
 use envelope::qos;
@@ -33,7 +33,7 @@ pub extern "C" fn morlewen_qos_join(
     priority: u8,
     class: u8,
 ) -> u64
-    ensures { λ r. ⌜ JoinsForC (qosOf «service_request» «special_handling» «network_preference» priority class) r ⌝ }
+    ensures { λ r. ⌜ JoinsForC (qosFor «service_request» «special_handling» «network_preference» priority class) r ⌝ }
 {
     join_word(qos::join(Qos {
         service_request,

@@ -17,8 +17,8 @@ use Rattle.golden.specs.Finding.{findFrom, finding}
 use Rattle.golden.specs.Listing.{counting, entryAt}
 use Rattle.golden.specs.Making.{making, recordOf}
 use Rattle.golden.specs.Stepping.{stepAt, nextAfter}
-use Rattle.exports.specs.Envelopes.{readSlots, fieldsAfter, ReadsForC, writeSlots, WritesForC, RewritesForC, qosOf, SplitsForC, JoinsForC, JudgesLatenessForC, JudgesSequenceForC}
-use Rattle.exports.specs.Goldens.{CountsForC, checkSlots, ChecksForC, nameOf, FindsForC, EntersForC, StepsForC, ComparesForC, MakesForC}
+use Rattle.exports.specs.Envelopes.{readSlots, fieldsAfter, ReadsForC, writeSlots, WritesForC, RewritesForC, qosFor, SplitsForC, JoinsForC, JudgesLatenessForC, JudgesSequenceForC}
+use Rattle.exports.specs.Goldens.{CountsForC, checkSlots, ChecksForC, nameFor, FindsForC, EntersForC, StepsForC, ComparesForC, MakesForC}
 use Rattle.exports.specs.Word.{slots, word}
 use Rattle.sheet.specs.Cases.{M}
 use Rattle.sheet.proofs.Apart.{apart}
@@ -68,11 +68,11 @@ pub split-for-c-tells-priority-from-class : SplitsForC 8 (0 ∷ 0 ∷ 0 ∷ 0 �
 unfolding splitting
 split-for-c-tells-priority-from-class kept = apart 1 0 tt (ap (λ (s : List ℕ). getD s 4 0) kept)
 
-pub join-for-c-refuses-what-does-not-fit : JoinsForC (qosOf 8 0 0 0 0) 0 → ⊥
+pub join-for-c-refuses-what-does-not-fit : JoinsForC (qosFor 8 0 0 0 0) 0 → ⊥
 unfolding joining word
 join-for-c-refuses-what-does-not-fit kept = apart 0 41 tt kept
 
-pub join-for-c-does-not-refuse-all : JoinsForC (qosOf 0 0 0 1 0) 41 → ⊥
+pub join-for-c-does-not-refuse-all : JoinsForC (qosFor 0 0 0 1 0) 41 → ⊥
 unfolding joining word
 join-for-c-does-not-refuse-all kept = apart 41 (8 * 4294967296) tt kept
 
@@ -116,11 +116,11 @@ check-for-c-counts-its-records kept =
 
 -- ---- find: a record invented; an opened record invented
 
-pub find-for-c-invents-no-record : FindsForC [] (nameOf 6000 1) 0 → ⊥
+pub find-for-c-invents-no-record : FindsForC [] (nameFor 6000 1) 0 → ⊥
 unfolding finding findFrom badFile word
 find-for-c-invents-no-record kept = apart 0 27 tt kept
 
-pub find-for-c-invents-no-opened-record : FindsForC [] (nameOf 6000 1) (word (slots 27 0 1 0)) → ⊥
+pub find-for-c-invents-no-opened-record : FindsForC [] (nameFor 6000 1) (word (slots 27 0 1 0)) → ⊥
 unfolding finding findFrom badFile word
 find-for-c-invents-no-opened-record kept = apart (27 + 65536) 27 tt kept
 

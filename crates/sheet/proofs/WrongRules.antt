@@ -1,12 +1,13 @@
 -- For each number of document 01, an answer that passes over its rule, refuted by computing.
 -- For 7 and 41 it stands in WrongAnswers, for 21, 22, 27 and 35 in WrongGolden; 32 never comes about.
 use mathlib.Core.List.{List, [], _∷_, _++_}
-use mathlib.Core.Path.{_≡_, refl, ap, _∙_}
+use mathlib.Core.Path.{_≡_, refl, ap, sym, _∙_}
 use Prim.Native.Nat.{ℕ, _+_}
 use native.Mathlib.Omega.{arith}
 use borrow.Author.Tests.{lt-ltb}
 use lib.ListN.{length, take, set, replicate}
-use Rattle.envelope.specs.Fields.{refusal}
+use Rattle.envelope.specs.Fields.{Answer, accepted, refusal}
+use Rattle.envelope.specs.Fields as answer
 use Rattle.envelope.specs.Flags.{badFlags}
 use Rattle.envelope.specs.Heading.{heading}
 use Rattle.envelope.specs.Layout.{largestBody}
@@ -31,7 +32,7 @@ use Rattle.golden.specs.declared.checker.Checking.the-variants.{Count}
 use Rattle.golden.specs.declared.comparer.Comparison.the-variants.{Same}
 use Rattle.golden.specs.declared.maker.Making.the-variants.{Made}
 use Rattle.sheet.specs.Cases.{M, withAddresses}
-use Rattle.sheet.proofs.Apart.{accepted-not-refused}
+use Rattle.sheet.proofs.Apart.{apart, accepted-not-refused}
 use Rattle.sheet.proofs.Cases.{starred}
 use Rattle.sheet.proofs.WrongAnswers.{givenM}
 
@@ -62,6 +63,23 @@ read-does-not-pass-over-5 e kept = accepted-not-refused _ 5 (kept ∙ starred .e
 
 pub read-does-not-pass-over-6 : (e : Envelope) → Reads (withAddresses 7 (0x41 ∷ 0x41 ∷ 0 ∷ [])) (Accepted e) → ⊥
 read-does-not-pass-over-6 e kept = accepted-not-refused _ 6 (kept ∙ starred .i-refused)
+
+-- and what is accepted has the message's own fields: not another number, and not a body from another place
+numberIn : Answer → ℕ
+numberIn (accepted f) = f .header .number
+numberIn (answer.refused r) = 0
+
+bodyPlaceIn : Answer → ℕ
+bodyPlaceIn (accepted f) = f .body .place
+bodyPlaceIn (answer.refused r) = 0
+
+pub read-does-not-change-the-number : (e : Envelope) → e .header .number ≡ 2 → Reads M (Accepted e) → ⊥
+unfolding numberIn
+read-does-not-change-the-number e other kept = apart 2 1 tt (sym other ∙ ap numberIn (kept ∙ starred .a .0))
+
+pub read-does-not-move-the-body : (e : Envelope) → e .body .place ≡ 21 → Reads M (Accepted e) → ⊥
+unfolding bodyPlaceIn
+read-does-not-move-the-body e other kept = apart 21 17 tt (sym other ∙ ap bodyPlaceIn (kept ∙ starred .a .0))
 
 -- ---- writing: M as it is given, but for one thing
 
