@@ -1,5 +1,5 @@
 -- Demand 3: a change inside four neighbouring bytes cannot turn one accepted CRC message into another.
--- The window lies wholly before the integrity field or is that field; across its edge the statement is false (docs/ACCEPTANCE.md has a pair).
+-- The window lies wholly before the integrity field or is that field; across its edge it fails in one window alone (AnyWindow, of which this is a case).
 use Prim.Native.Nat.{ℕ, _+_, _-_, _≤_, _<_}
 use mathlib.Core.List.{List, _++_}
 use mathlib.Core.Path.{_≡_}

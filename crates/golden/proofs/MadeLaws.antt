@@ -98,6 +98,9 @@ module _ (m : List ℕ) (fields : Fields) (short : length m ≤ longestMessage) 
   first : recordAt file 0 ≡ file
   first = take-all recordSize file (omega (arith, size))
 
+  pub message-made : messageOf (recordAt file 0) ≡ m
+  message-made = rw first (message-back m)
+
   judged : judgedAt file 0 ≡ good fields
   unfolding judgedAt
   judged =

@@ -1,16 +1,16 @@
 -- Laws of a record: a scan for bytes that are not zero, and what a judgement says of the record's parts.
 -- `Good` has everything that a good record keeps.
 use mathlib.Core.Bool.{Bool, true, false, cond}
-use mathlib.Core.List.{List}
-use mathlib.Core.Path.{_≡_, refl}
-use Prim.Native.Nat.{ℕ, _+_, _-_, _*_, _≤_, _<_}
+use mathlib.Core.List.{List, [], _∷_}
+use mathlib.Core.Path.{_≡_, refl, sym, _∙_}
+use Prim.Native.Nat.{ℕ, zero, suc, _+_, _-_, _*_, _≤_, _<_}
 use native.Mathlib.Numerals.{add-one}
 use native.Mathlib.Omega.{arith}
-use borrow.Author.Tests.{eq-eqb, ne-eqb, le-ltb, ltb-false}
-use lib.Dec.{ltb}
+use borrow.Author.Tests.{eq-eqb, eqb-true, ne-eqb, le-ltb, ltb-false, not-false}
+use lib.Dec.{eqb, ltb}
 use lib.ListN.{length, take, drop, getD, drop-of-length-le, length-drop}
-use lib.Seq.{drop-cons, take-all, length-take-le}
-use Rattle.envelope.proofs.BoolLaws.{neither}
+use lib.Seq.{drop-cons, getD-drop, take-all, length-take-le}
+use Rattle.envelope.proofs.BoolLaws.{both, neither}
 use Rattle.envelope.specs.Fields.{Fields, Answer, accepted, refused}
 use Rattle.envelope.specs.Layout.{leastSize}
 use Rattle.envelope.specs.Reading.{reading}
@@ -31,6 +31,13 @@ zeros-more s i h e = rw (add-one, drop-cons s i 0) (simp (eq-eqb _ _ e))
 pub zeros-end : (s : List ℕ) (i : ℕ) → length s ≤ i → allZero (drop i s) ≡ true
 unfolding allZero
 zeros-end s i h = rw (drop-of-length-le s h)
+
+-- where all are zero, each is
+pub zeros-each : (s : List ℕ) (i : ℕ) → allZero s ≡ true → getD s i 0 ≡ 0
+unfolding allZero
+zeros-each [] i e = refl
+zeros-each (b ∷ s) zero e = eqb-true b 0 (both (eqb b 0) (allZero s) e .0)
+zeros-each (b ∷ s) (suc i) e = zeros-each s i (both (eqb b 0) (allZero s) e .1)
 
 -- a part that ends at the end
 pub part-to-end : (k : ℕ) (r : List ℕ) → take (length r - k) (drop k r) ≡ drop k r
@@ -71,6 +78,13 @@ good-record r f e =
     let p = past (badLength (storedLength r)) _ _ f e in
     let q = past (notClear r) _ _ f (p .1) in
     record { size = p .0; clear = q .0; accepts = by-reading (reading (messageOf r)) f (q .1) }
+
+-- every byte after its message is zero
+pub behind-message : (r : List ℕ) (f : Fields) → Good r f → (i : ℕ) → headSize + storedLength r ≤ i → getD r i 0 ≡ 0
+behind-message r f g i h =
+    let n = headSize + storedLength r in
+    let e : n + (i - n) ≡ i = omega arith in
+    rw e at (sym (getD-drop n r (i - n) 0) ∙ zeros-each (drop n r) (i - n) (not-false (allZero (drop n r)) (g .clear)))
 
 pub record-good : (r : List ℕ) (f : Fields) → Good r f → judging r ≡ good f
 unfolding judging

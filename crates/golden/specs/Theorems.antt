@@ -1,16 +1,20 @@
 -- What users of a golden file rely on. Each statement is a type here; the proofs stand in proofs/ (WalkLaws, CheckedLaws, MadeLaws, BeginningLaws, FewLaws, KeptLaws, DemandLaws).
 -- `f` and `g` are files, `n` counts records.
-use Prim.Native.Nat.{ℕ, suc, _+_, _*_, _≤_, _<_}
+use Prim.Native.Nat.{ℕ, suc, _+_, _-_, _*_, _≤_, _<_}
 use mathlib.Core.Bool.{true, false}
 use mathlib.Core.List.{List}
+use mathlib.Core.Logic.{_⊎_}
 use mathlib.Core.Path.{_≡_}
 use denote.Ref.{RefT, now}
 use lib.ListN.{length}
+use Rattle.envelope.specs.AnyWindow.{TwoAndTwoAt, OneDifference}
 use Rattle.envelope.specs.Demand3.{DeclaresCrc, Window, SameOutside}
 use Rattle.envelope.specs.Fields.{Fields, accepted}
 use Rattle.envelope.specs.Layout.{largestMessage}
+use Rattle.envelope.specs.Numbers.{byteAt}
 use Rattle.envelope.specs.Promise.{Bytes}
 use Rattle.envelope.specs.Reading.{reading}
+use Rattle.envelope.specs.TwoBits.{bitsApart, summed, fieldOf}
 use Rattle.golden.specs.Checking.{CheckAnswer, counted, checking}
 use Rattle.golden.specs.Checking as check
 use Rattle.golden.specs.Comparing.{properBeginning, comparing, CompareAnswer, same, different, unlike, answerOf, toldComparison, Compares}
@@ -175,3 +179,52 @@ GoldenDemand3 =
     (f g : List ℕ) (n m r k : ℕ) → Bytes f → Bytes g → checking f ≡ counted n → checking g ≡ counted m → r < n
     → DeclaresCrc (messageOf (recordAt f r)) → DeclaresCrc (messageOf (recordAt g r)) → Window k (length (messageOf (recordAt f r)))
     → length f ≡ length g → SameOutside (r * recordSize + headSize + k) f g → f ≡ g
+
+-- ---- K11 for golden files: one or two bits of one record's message, before its integrity field
+
+-- the same at every place outside the message of record r
+abbrev pub SameButMessage : ℕ → List ℕ → List ℕ → Type 0
+SameButMessage r f g =
+    ((i : ℕ) → i < r * recordSize + headSize → byteAt f i ≡ byteAt g i)
+    × ((i : ℕ) → r * recordSize + headSize + length (messageOf (recordAt f r)) ≤ i → byteAt f i ≡ byteAt g i)
+
+abbrev pub GoldenBitsBeforeField : ℕ → Type 0
+GoldenBitsBeforeField bits =
+    (f g : List ℕ) (n m r : ℕ) → Bytes f → Bytes g → checking f ≡ counted n → checking g ≡ counted m → r < n
+    → DeclaresCrc (messageOf (recordAt f r)) → DeclaresCrc (messageOf (recordAt g r)) → length f ≡ length g → SameButMessage r f g
+    → fieldOf (messageOf (recordAt f r)) ≡ fieldOf (messageOf (recordAt g r))
+    → 1 ≤ bitsApart (summed (messageOf (recordAt f r))) (summed (messageOf (recordAt g r)))
+    → bitsApart (summed (messageOf (recordAt f r))) (summed (messageOf (recordAt g r))) ≤ bits → ⊥
+
+abbrev pub GoldenTwoBits : Type 0
+GoldenTwoBits = GoldenBitsBeforeField 2
+
+-- beyond it: up to so many bits anywhere in that message
+abbrev pub GoldenBits : ℕ → Type 0
+GoldenBits bits =
+    (f g : List ℕ) (n m r : ℕ) → Bytes f → Bytes g → checking f ≡ counted n → checking g ≡ counted m → r < n
+    → DeclaresCrc (messageOf (recordAt f r)) → DeclaresCrc (messageOf (recordAt g r)) → length f ≡ length g → SameButMessage r f g
+    → bitsApart (messageOf (recordAt f r)) (messageOf (recordAt g r)) ≤ bits → f ≡ g
+
+abbrev pub GoldenThreeBits : Type 0
+GoldenThreeBits = GoldenBits 3
+
+-- beyond demand 3: four neighbouring bytes anywhere behind the stored length of one record, the zeros after its message included,
+-- but for the windows left out
+abbrev pub GoldenWindowsBut : (ℕ → ℕ → Type 0) → Type 0
+GoldenWindowsBut LeftOut =
+    (f g : List ℕ) (n m r k : ℕ) → Bytes f → Bytes g → checking f ≡ counted n → checking g ≡ counted m → r < n
+    → DeclaresCrc (messageOf (recordAt f r)) → DeclaresCrc (messageOf (recordAt g r)) → k + 4 ≤ longestMessage
+    → (LeftOut k (length (messageOf (recordAt f r))) → ⊥)
+    → length f ≡ length g → SameOutside (r * recordSize + headSize + k) f g → f ≡ g
+
+abbrev pub GoldenAnyWindow : Type 0
+GoldenAnyWindow = GoldenWindowsBut TwoAndTwoAt
+
+-- the window left out: equal, or one difference
+abbrev pub GoldenMiddleWindow : Type 0
+GoldenMiddleWindow =
+    (f g : List ℕ) (n m r k : ℕ) → Bytes f → Bytes g → checking f ≡ counted n → checking g ≡ counted m → r < n
+    → DeclaresCrc (messageOf (recordAt f r)) → DeclaresCrc (messageOf (recordAt g r))
+    → TwoAndTwoAt k (length (messageOf (recordAt f r)))
+    → length f ≡ length g → SameOutside (r * recordSize + headSize + k) f g → (f ≡ g) ⊎ OneDifference (r * recordSize + headSize + k) f g
