@@ -26,7 +26,7 @@ sourceIn : Answer → ℕ
 sourceIn (accepted f) = sourceSizeIn (f .addressing)
 sourceIn (refused r) = 0
 
-sum-of-C : crc32 (take 19 C) ≡ 0xD9299F95
+pub sum-of-C : crc32 (take 19 C) ≡ 0xD9299F95
 sum-of-C = crc32-computes (take 19 C) tt
 
 pub starred : StarredCases

@@ -2,14 +2,20 @@
 -- Message M of document 01, the CRC message C, a file that make wrote, the empty file, and a file of one byte.
 use mathlib.Core.Bool.{false, cond, not}
 use mathlib.Core.List.{List, [], _∷_}
+use mathlib.Core.Logic.{_⊎_, inl, inr}
 use mathlib.Core.Path.{_≡_, refl, ap, sym}
 use Prim.Native.Nat.{ℕ}
 use native.Mathlib.Omega.{arith}
 use denote.Ref.{RefT, now}
-use lib.Dec.{eqb}
+use lib.Dec.{eqb, lit≤}
 use lib.ListN.{take, drop, replicate}
+use Rattle.sum.specs.Crc.{crc32}
 use Rattle.sum.specs.Detection.{Bytes, bitsOf}
+use Rattle.sum.specs.Edge.{TwoAndTwo}
+use Rattle.sum.specs.Flips.{lowBits}
 use Rattle.sum.proofs.Computed.{literals}
+use Rattle.sum.proofs.Flips.{bitsApart-same, placesApart-same}
+use Rattle.envelope.specs.AnyWindow.{OneDifference}
 use Rattle.envelope.specs.Demand3.{DeclaresCrc, before, field}
 use Rattle.envelope.specs.Fields.{absent}
 use Rattle.envelope.specs.Flags.{badFlags}
@@ -28,20 +34,23 @@ use Rattle.golden.specs.Finding.{finding}
 use Rattle.golden.specs.Making.{making, recordOf}
 use Rattle.golden.specs.Making as make
 use Rattle.golden.specs.Refusal.{plainly}
-use Rattle.golden.specs.Record.{storedWord, storedLength, messageOf}
+use Rattle.golden.specs.Record.{messageOf}
 use Rattle.golden.specs.Stepping.{stepAt, nextAfter, toldReached}
 use Rattle.golden.specs.Stepping as step
 use Rattle.golden.specs.Theorems.{AllGood, FirstNamed, MadeGood, InOrder}
 use Rattle.golden.specs.declared.comparer.Comparison.the-variants.{NoRecord}
 use Rattle.golden.specs.declared.maker.Making.the-variants.{Made, WrongBuffer}
 use Rattle.golden.specs.declared.stepper.Reached.the-variants.{End, NotAFile}
-use Rattle.golden.proofs.MadeLaws.{checks}
 use Rattle.exports.specs.Word.{slots, word, unword}
 use Rattle.sheet.specs.Cases.{M, likeM, C, fieldsOfC}
+use Rattle.sheet.specs.Limits.{acrossTheEdge}
 use Rattle.sheet.proofs.Cases.{starred}
 use Rattle.sheet.proofs.Demand1.{a-word-tells-its-slots, a-refusal-writes-nothing, a-refused-comparison-keeps-the-list, a-refused-making-keeps-the-buffer}
 use Rattle.sheet.proofs.Demand2.{written-then-read, written-buffer-then-read, read-then-written, same-fields-same-bytes, qos-joins-what-was-split, qos-splits-what-was-joined, file-walks-in-order, other-file-stays, checked-are-good, finds-the-first, made-is-good, never-a-beginning}
-use Rattle.sheet.proofs.Demand3.{four-bytes-show, thirty-two-bits-show, demand-3, demand-3-bits, golden-demand-3}
+use Rattle.sheet.proofs.Apart.{apart}
+use Rattle.sheet.proofs.Demand3.{four-bytes-show, thirty-two-bits-show, three-bits-show, bytes-at-the-edge-show, two-and-two-show, demand-3, demand-3-bits, golden-demand-3, three-bits-anywhere, golden-three-bits, any-window, golden-any-window, middle-window, golden-middle-window}
+use Rattle.sheet.proofs.Limits.{limits, bytes-of-pair, pair-length, pair-outside}
+use Rattle.sheet.proofs.OneRecord.{one-checks, one-holds, one-declares}
 use Rattle.sheet.proofs.WrongAnswers.{givenM, writes-M}
 use Rattle.sheet.proofs.WrongGolden.{checks-M}
 
@@ -155,26 +164,76 @@ unfolding bitsOf
 bits-show-themselves =
     thirty-two-bits-show (take 4 M) (take 4 M) [] (bitsOf (take 4 M)) (bitsOf (take 4 M)) [] (literals (take 4 M) tt) (literals (take 4 M) tt) refl refl refl (omega arith) refl
 
--- a file of the one record of C
+-- ---- K11 and what lies beyond: C, and the pair that differs across the field's edge
+
+pub three-bits-show-themselves : take 4 M ≡ take 4 M
+three-bits-show-themselves =
+    three-bits-show (take 4 M) (take 4 M) (literals (take 4 M) tt) (literals (take 4 M) tt) refl (lit≤ tt)
+    (rw (bitsApart-same (take 4 M), placesApart-same (lowBits 32 (crc32 (take 4 M)))) (lit≤ tt))
+
+pub three-at-the-edge-show : take 3 M ≡ take 3 M
+three-at-the-edge-show =
+    bytes-at-the-edge-show [] (take 3 M) (take 3 M) (literals [] tt) (literals (take 3 M) tt) (literals (take 3 M) tt) refl (lit≤ tt) (apart 3 2 tt) refl
+
+pub two-at-the-edge-show : TwoAndTwo 4 23 4 23 (crc32 (4 ∷ 23 ∷ [])) (crc32 (4 ∷ 23 ∷ []))
+two-at-the-edge-show = two-and-two-show [] 4 23 4 23 (literals [] tt) (literals (4 ∷ 23 ∷ []) tt) (literals (4 ∷ 23 ∷ []) tt) refl
+
+pub C-in-three-bits : C ≡ C
+C-in-three-bits = three-bits-anywhere C C bytes-C bytes-C refl (lit≤ tt) declares-C declares-C (rw (bitsApart-same C) (lit≤ tt))
+
+pub C-across-the-edge : C ≡ C
+C-across-the-edge = any-window C C 16 bytes-C bytes-C refl declares-C declares-C (apart 18 19 tt) (λ i h. refl, λ i h. refl)
+
+-- the pair across the edge differs by the one difference that there is
+abbrev differing-so : {k : ℕ} {s t : List ℕ} → (s ≡ t → ⊥) → (s ≡ t) ⊎ OneDifference k s t → OneDifference k s t
+differing-so other (inl e) = absurd (other e)
+differing-so other (inr d) = d
+
+pub the-pair-is-the-one : OneDifference 17 C acrossTheEdge
+the-pair-is-the-one =
+    differing-so (limits .they-differ)
+    (middle-window C acrossTheEdge 17 bytes-C (literals acrossTheEdge tt) refl (limits .first) (limits .second) refl (limits .same-outside))
+
+-- ---- the same of files: that of the one record of C, and that of the pair
+
 abbrev fileC : List ℕ
 fileC = recordOf C
 
 checks-C : checking fileC ≡ counted 1
-checks-C = checks C fieldsOfC (omega arith) (starred .kind-crc)
+checks-C = one-checks C declares-C (lit≤ tt)
 
-message-is-C : messageOf (recordAt fileC 0) ≡ C
-unfolding recordOf storedLength storedWord twoAt
-message-is-C = refl
+holds-C : messageOf (recordAt fileC 0) ≡ C
+holds-C = one-holds C declares-C (lit≤ tt)
 
-bytes-of-file : Bytes fileC
-unfolding recordOf
-bytes-of-file = literals fileC tt
+declares-in-file : DeclaresCrc (messageOf (recordAt fileC 0))
+declares-in-file = one-declares C declares-C (lit≤ tt)
 
 pub file-of-C : fileC ≡ fileC
 file-of-C =
-    let declares : DeclaresCrc (messageOf (recordAt fileC 0)) = rw message-is-C declares-C in
-    golden-demand-3 fileC fileC 1 1 0 0 bytes-of-file bytes-of-file checks-C checks-C (omega arith) declares declares
-    (rw message-is-C (before (omega arith))) refl (λ i h. refl, λ i h. refl)
+    golden-demand-3 fileC fileC 1 1 0 0 (bytes-of-pair .0) (bytes-of-pair .0) checks-C checks-C (omega arith) declares-in-file declares-in-file
+    (rw holds-C (before (omega arith))) refl (λ i h. refl, λ i h. refl)
+
+pub file-of-C-in-three-bits : fileC ≡ fileC
+file-of-C-in-three-bits =
+    golden-three-bits fileC fileC 1 1 0 (bytes-of-pair .0) (bytes-of-pair .0) checks-C checks-C (omega arith) declares-in-file declares-in-file refl
+    (λ i h. refl, λ i h. refl) (rw (bitsApart-same (messageOf (recordAt fileC 0))) (lit≤ tt))
+
+-- three bytes before the field and one in it; and the last two of the message with the first two zeros behind it
+pub file-of-C-across-the-edge : fileC ≡ fileC
+file-of-C-across-the-edge =
+    golden-any-window fileC fileC 1 1 0 16 (bytes-of-pair .0) (bytes-of-pair .0) checks-C checks-C (omega arith) declares-in-file declares-in-file
+    (lit≤ tt) (rw holds-C (apart 18 19 tt)) refl (λ i h. refl, λ i h. refl)
+
+pub file-of-C-into-the-zeros : fileC ≡ fileC
+file-of-C-into-the-zeros =
+    golden-any-window fileC fileC 1 1 0 21 (bytes-of-pair .0) (bytes-of-pair .0) checks-C checks-C (omega arith) declares-in-file declares-in-file
+    (lit≤ tt) (rw holds-C (apart 23 19 tt)) refl (λ i h. refl, λ i h. refl)
+
+pub the-files-of-the-pair : (fileC ≡ recordOf acrossTheEdge) ⊎ OneDifference 19 fileC (recordOf acrossTheEdge)
+the-files-of-the-pair =
+    golden-middle-window fileC (recordOf acrossTheEdge) 1 1 0 17 (bytes-of-pair .0) (bytes-of-pair .1) checks-C
+    (one-checks acrossTheEdge (limits .second) (lit≤ tt)) (omega arith) declares-in-file (one-declares acrossTheEdge (limits .second) (lit≤ tt))
+    (rw holds-C refl) pair-length pair-outside
 
 -- ---- the answer word: 25 with 7, of record 3
 

@@ -1,6 +1,8 @@
 pub mod Apart
 pub mod Cases
 pub mod Limits
+pub mod FourBits
+pub mod OneRecord
 pub mod Edges
 pub mod Demand1
 pub mod Demand2
@@ -9,4 +11,5 @@ pub mod WrongAnswers
 pub mod WrongGolden
 pub mod WrongExports
 pub mod WrongRules
+pub mod WrongStatements
 pub mod Instances
