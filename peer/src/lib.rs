@@ -4,4 +4,5 @@
 pub mod cases;
 pub mod crc;
 pub mod envelope;
+pub mod flips;
 pub mod golden;

@@ -1,6 +1,8 @@
-// The byte editor's story: a message of kind CRC with one byte or two neighbours changed, and the file checked.
+// The byte editor's story: a message of kind CRC with one byte or two neighbours changed, and the file checked; then single bits and pairs of them.
 // An edit that changes the declared kind is left out, since it makes another message.
 ghost use Prim.Native.Nat.{_≤_};
+use crate::flips::flip_each;
+use crate::flips::flip_pairs;
 use crate::golden_lines::checked;
 use crate::goldens::put;
 use crate::printing::end_line;
@@ -12,7 +14,7 @@ use golden::Record;
 use golden::check;
 
 // The length of the message that is edited.
-const MESSAGE: usize = 60;
+pub const MESSAGE: usize = 60;
 
 // The pairs of masks that `masks_of` knows.
 const MASKS: usize = 6;
@@ -23,13 +25,13 @@ struct Masks {
     next: u8,
 }
 
-struct Tally {
-    edited: u64,
-    refused: u64,
+pub struct Tally {
+    pub edited: u64,
+    pub refused: u64,
 }
 
 pub fn edits() {
-    let mut file = [0u8; 2 * Record::SIZE];
+    let mut file = [0u8; 3 * Record::SIZE];
     put(
         &mut file,
         0,
@@ -40,14 +42,24 @@ pub fn edits() {
         1,
         b"\x04\x17\x70\x01\x08\x00\x00\x02\x00\x00\x00\x01\x00\x00\x00\x00\x00\x00\x00\xd9\x29\x9f\x95",
     );
+    put(
+        &mut file,
+        2,
+        b"\x04\x17\x70\x01\x08\x00\x00\x05\xee\x6b\x28\x00\x65\x53\xf1\x00\x13\x01\x2c\x00\x08\x75\x70\x2e\x62\x3a\x69\x74\x63\x00\x63\x73\x78\x2e\x62\x00\x68\x65\x6c\x6c\x6f\x0f\xbc\x61\xc7",
+    );
     checked(b"the file to be edited", &file);
-    let tally = edit_all(&mut file);
-    text(b"edited");
+    told(b"edited", edit_all(&mut file));
+    told(b"each bit flipped", flip_each(&mut file));
+    told(b"each pair of bits flipped", flip_pairs(&mut file));
+    checked(b"the file with every edit undone", &file);
+}
+
+fn told(words: &[u8], tally: Tally) {
+    text(words);
     number(tally.edited);
     text(b" refused");
     number(tally.refused);
     end_line();
-    checked(b"the file with every edit undone", &file);
 }
 
 // Each place of the first message by each pair of masks. What follows the last place is the first zero after the message.
@@ -98,15 +110,28 @@ fn edit(file: &mut [u8], place: usize, masks: Masks) -> Tally
     ensures { λ r. ⌜ (r .edited ≤ 1) × (r .refused ≤ 1) ⌝ }
 {
     if changes_kind(place, masks) {
-        return Tally {
-            edited: 0,
-            refused: 0,
-        };
+        return none();
     }
     change(file, place, masks);
-    let refused = refuses(file);
+    let tally = judged(file);
     change(file, place, masks);
-    if refused {
+    tally
+}
+
+pub fn none() -> Tally
+    ensures { λ r. ⌜ (r .edited ≤ 1) × (r .refused ≤ 1) ⌝ }
+{
+    Tally {
+        edited: 0,
+        refused: 0,
+    }
+}
+
+// The file as it was edited, checked.
+pub fn judged(file: &[u8]) -> Tally
+    ensures { λ r. ⌜ (r .edited ≤ 1) × (r .refused ≤ 1) ⌝ }
+{
+    if refuses(file) {
         return Tally {
             edited: 1,
             refused: 1,
@@ -129,7 +154,7 @@ fn changes_kind(place: usize, masks: Masks) -> bool {
     false
 }
 
-fn has_kind_bits(mask: u8) -> bool {
+pub fn has_kind_bits(mask: u8) -> bool {
     mask / 8 % 4 != 0
 }
 
@@ -140,7 +165,7 @@ fn change(file: &mut [u8], place: usize, masks: Masks) {
     }
 }
 
-fn change_byte(file: &mut [u8], place: usize, mask: u8) {
+pub fn change_byte(file: &mut [u8], place: usize, mask: u8) {
     if place < file.len() {
         file[place] = file[place] ^ mask;
     }

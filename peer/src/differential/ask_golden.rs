@@ -13,7 +13,7 @@ pub fn file(run: &mut Run, file: &[u8]) {
     let shown = || format!("file {}", hex(file));
     let before = file.to_vec();
     let records = run.plain(Operation::Records, || ours::records(file), || mirror::records(file), &shown);
-    let check = run.plain(Operation::Check, || ours::check(file), || mirror::check(file), &shown);
+    let check = check(run, file);
     let walk = walk(run, file);
     run.holds("a walk goes as far as there are records", walk.count == records.count, &shown);
     let expected = walk.first_bad.unwrap_or(records);
@@ -24,6 +24,11 @@ pub fn file(run: &mut Run, file: &[u8]) {
         find(run, file, message_type, number);
     }
     run.holds("a file lent to be read stays as it was", before == file, &shown);
+}
+
+/// The check alone.
+pub fn check(run: &mut Run, file: &[u8]) -> Answer {
+    run.plain(Operation::Check, || ours::check(file), || mirror::check(file), &|| format!("file {}", hex(file)))
 }
 
 struct Walk {

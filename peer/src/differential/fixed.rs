@@ -8,6 +8,7 @@ use crate::interface::{Answer, Order, Timing};
 use crate::{mirror, ours};
 use peer::cases;
 use peer::envelope::{LONGEST_BODY, LONGEST_END, LONGEST_VARIABLE, SERVICE, SHORTEST};
+use peer::flips;
 use peer::golden::{MOST_RECORDS, RECORD};
 
 /// A message of the greatest length there is.
@@ -23,6 +24,7 @@ pub fn short(run: &mut Run) {
     moments(run);
     sequences(run);
     file_lengths(run);
+    flipped_bits(run);
 }
 
 pub fn long(run: &mut Run) {
@@ -72,6 +74,21 @@ fn listed(run: &mut Run, file: &[u8], listing: &str) {
     let ours = ask_golden::listing(file, ours::records, ours::line);
     let peer = ask_golden::listing(file, mirror::records, mirror::line);
     run.holds("case o is listed as told", ours == listing && peer == listing, &|| format!("file {}", hex(file)));
+}
+
+/// Every bit of three messages of kind CRC, and every pair of bits of one: a check refuses them all.
+fn flipped_bits(run: &mut Run) {
+    run.family("flipped bits");
+    let file = flips::file();
+    flips::each_bit(&file, |file| flipped(run, file));
+    flips::each_pair(&file, 0, |file| flipped(run, file));
+}
+
+fn flipped(run: &mut Run, file: &[u8]) {
+    run.input();
+    let shown = || format!("file {}", hex(file));
+    let answer = ask_golden::check(run, file);
+    run.holds("a check sees one or two flipped bits", answer.number == 25, &shown);
 }
 
 /// Every flags byte with every variable header size.
