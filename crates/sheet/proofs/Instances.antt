@@ -20,7 +20,6 @@ use Rattle.envelope.specs.Demand3.{DeclaresCrc, before, field}
 use Rattle.envelope.specs.Fields.{absent}
 use Rattle.envelope.specs.Flags.{badFlags}
 use Rattle.envelope.specs.Message.{beforeField, fieldNumber, message}
-use Rattle.envelope.specs.Numbers.{twoAt}
 use Rattle.envelope.specs.Qos.{joined, splitting, joining}
 use Rattle.envelope.specs.RoundTrips.{ReadsAs}
 use Rattle.envelope.specs.Writing.{Outcome, written, refused, writing, answerOf, bufferAfter, hasZero, badEnd, strayIntegrity}
