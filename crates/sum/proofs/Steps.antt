@@ -81,6 +81,10 @@ unfolding bitSteps
 bitSteps-add zero n state = rw zero-add
 bitSteps-add (suc m) n state = rw suc-add (bitSteps-add m n (bitStep state))
 
+-- steps that take a shift back, and go on
+pub bitSteps-past : (m n a : ℕ) → bitSteps (m + n) (a * 2 ^ m) ≡ bitSteps n a
+bitSteps-past m n a = bitSteps-add m n (a * 2 ^ m) ∙ ap (bitSteps n) (bitSteps-shifted m a)
+
 -- ---- one to one on 32 digits
 
 reduced-lt : (b shifted : ℕ) → shifted < 2 ^ 32 → reduced b shifted < 2 ^ 32
@@ -125,13 +129,3 @@ unfolding bitSteps
 bitSteps-injective zero a b ha hb e = e
 bitSteps-injective (suc n) a b ha hb e =
     bitStep-injective a b ha hb (bitSteps-injective n (bitStep a) (bitStep b) (bitStep-lt a ha) (bitStep-lt b hb) e)
-
--- ---- as a loop takes them
-
-pub bitSteps-next : (m n state : ℕ) → m ≡ suc n → bitSteps m state ≡ bitSteps n (bitStep state)
-unfolding bitSteps
-bitSteps-next m n state e = ap (λ (k : ℕ). bitSteps k state) e
-
-pub bitSteps-none : (n state : ℕ) → n ≡ 0 → bitSteps n state ≡ state
-unfolding bitSteps
-bitSteps-none n state e = ap (λ (k : ℕ). bitSteps k state) e

@@ -1,63 +1,24 @@
--- `sum::crc` answers the sum. The loop's invariant: the bytes that are left lead from `state` to the state after all of them.
-use mathlib.Core.Path.{_≡_, sym, ap, _∙_}
-use Prim.Native.Nat.{ℕ, _+_, _-_, _≤_}
-use native.Mathlib.Omega.{arith}
+-- `sum::crc` answers the sum: the state after all bytes, which the last stage leaves, inverted.
+use mathlib.Core.Path.{ap}
+use Prim.Native.Nat.{ℕ}
 use borrow.Author.Needs.{needs}
 use lib.Bits.{bitXor}
-use lib.ListN.{length, drop}
-use Rattle.sum.specs.Crc.{allOnes, stateAfter, crc32}
-use Rattle.sum.proofs.Sums.{stateAfter-next, stateAfter-end}
+use Rattle.sum.specs.Crc.{allOnes, crc32}
 use Rattle.sum.proofs.crc.Statement.{statement}
 use Rattle.sum.proofs.crc.Tie as tie
 
-abbrev Inv-loop : tie.InvT-loop
-Inv-loop bytes state₀ i₀ state i =
-    (i ≤ length bytes) × (stateAfter allOnes bytes ≡ stateAfter state (drop i bytes))
+by-words-requires : tie.Need-by-words-requires
+by-words-requires c κs = search needs
 
-abbrev μ-loop : tie.MeasureT-loop
-μ-loop bytes state₀ i₀ state i = length bytes - i
+by-halves-requires : tie.Need-by-halves-requires
+by-halves-requires c κs = search needs
 
-loop-holds : tie.Need-loop-holds Inv-loop μ-loop
-loop-holds c = search needs
+by-bytes-requires : tie.Need-by-bytes-requires
+by-bytes-requires c κs = search needs
 
-shared-slice-read-byte-step : tie.Need-shared-slice-read-byte-step Inv-loop μ-loop
-shared-slice-read-byte-step c = search needs
-
-byte-step-requires : tie.Need-byte-step-requires Inv-loop μ-loop
-byte-step-requires c κs = search needs
-
-add-i : tie.Need-add-i Inv-loop μ-loop
-add-i c = search needs
-
-loop-less : tie.Need-loop-less Inv-loop μ-loop
-loop-less c = search needs
-
-loop-again : tie.Need-loop-again Inv-loop μ-loop
-loop-again c =
-    let at = c .before .before .before .loop in
-    let bytes = c .before .before .before .before .before .args .bytes .now in (
-      search needs,
-      at .inv .1
-          ∙ stateAfter-next bytes (at .i) (at .state) (omega arith)
-          ∙ ap (λ (s : ℕ). stateAfter s (drop (at .i + 1) bytes)) (sym (c .byte-step .ensures)),
-    )
-
-returns : tie.Need-returns Inv-loop μ-loop
+returns : tie.Need-returns
 unfolding crc32
-returns c =
-    let bytes = c .before .before .before .args .bytes .now in
-    ap (λ (s : ℕ). bitXor s allOnes) (sym (c .before .loop .inv .1 ∙ stateAfter-end bytes (c .before .loop .i) _ (omega arith)))
+returns c = ap (λ (s : ℕ). bitXor s allOnes) (c .by-bytes .ensures)
 
 pub crc-spec : {M : Type 1} → statement M
-crc-spec =
-    tie.close
-    (tie.spec
-    Inv-loop
-    μ-loop
-    loop-holds
-    shared-slice-read-byte-step
-    byte-step-requires
-    add-i
-    loop-less
-    loop-again
-    returns)
+crc-spec = tie.close (tie.spec by-words-requires by-halves-requires by-bytes-requires returns)
