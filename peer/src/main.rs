@@ -4,10 +4,10 @@
 mod bench;
 mod differential;
 mod interface;
+mod loaded;
 mod mirror;
 mod ours;
 mod random;
-mod zlib;
 
 use std::env;
 use std::process::ExitCode;

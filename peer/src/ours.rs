@@ -49,7 +49,7 @@ extern "C" {
 }
 
 /// Takes an answer word apart.
-fn unpack(word: u64) -> Answer {
+pub fn unpack(word: u64) -> Answer {
     Answer { number: word as u8, reading: (word >> 8) as u8, count: (word >> 16) as u16, value: (word >> 32) as u32 }
 }
 
