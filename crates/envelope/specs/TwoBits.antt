@@ -26,7 +26,7 @@ BitsBeforeField n =
     (s t : List ℕ) → Bytes s → Bytes t → length s ≡ length t → length s ≤ longest → DeclaresCrc s → DeclaresCrc t
     → fieldOf s ≡ fieldOf t → 1 ≤ bitsApart (summed s) (summed t) → bitsApart (summed s) (summed t) ≤ n → ⊥
 
--- K11
+-- K11, under its own title: before the field
 abbrev pub TwoBitsAnywhere : Type 0
 TwoBitsAnywhere = BitsBeforeField 2
 

@@ -22,7 +22,7 @@ use Rattle.envelope.specs.Promise.{Bytes}
 use Rattle.golden.specs.Checking.{counted, checking}
 use Rattle.golden.specs.File.{countOf, recordAt, judgedAt}
 use Rattle.golden.specs.Record.{recordSize, headSize, longestMessage, storedWord, storedLength, messageOf}
-use Rattle.golden.specs.Theorems.{GoodAt, GoldenDemand3, SameButMessage, GoldenTwoBits, GoldenThreeBits, GoldenAnyWindow, GoldenMiddleWindow}
+use Rattle.golden.specs.Theorems.{GoodAt, GoldenDemand3, SameButMessage, GoldenTwoBits, GoldenThreeBitsAnywhere, GoldenAnyWindow, GoldenMiddleWindow}
 use Rattle.golden.proofs.CheckedLaws.{checked-are-good}
 use Rattle.golden.proofs.RecordLaws.{length-most, Good, good-record, behind-message, message-long}
 
@@ -246,8 +246,8 @@ golden-two-bits f g n m r bf bg cf cg l ds dt e same fields least most =
     two-bits-anywhere (messageOf (recordAt f r)) (messageOf (recordAt g r)) (message-bytes f r bf) (message-bytes g r bg)
     (equal-lengths f g n m r bf bg cf cg l e same) (short-enough f g n m r bf bg cf cg l e same) ds dt fields least most
 
-pub golden-three-bits : GoldenThreeBits
-golden-three-bits f g n m r bf bg cf cg l ds dt e same few =
+pub golden-three-bits-anywhere : GoldenThreeBitsAnywhere
+golden-three-bits-anywhere f g n m r bf bg cf cg l ds dt e same few =
     equal-files f g n m r bf bg cf cg l e same
     (three-bits-anywhere (messageOf (recordAt f r)) (messageOf (recordAt g r)) (message-bytes f r bf) (message-bytes g r bg)
     (equal-lengths f g n m r bf bg cf cg l e same) (short-enough f g n m r bf bg cf cg l e same) ds dt few)

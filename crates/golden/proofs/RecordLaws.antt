@@ -33,7 +33,7 @@ unfolding allZero
 zeros-end s i h = rw (drop-of-length-le s h)
 
 -- where all are zero, each is
-pub zeros-each : (s : List ℕ) (i : ℕ) → allZero s ≡ true → getD s i 0 ≡ 0
+zeros-each : (s : List ℕ) (i : ℕ) → allZero s ≡ true → getD s i 0 ≡ 0
 unfolding allZero
 zeros-each [] i e = refl
 zeros-each (b ∷ s) zero e = eqb-true b 0 (both (eqb b 0) (allZero s) e .0)

@@ -200,14 +200,14 @@ abbrev pub GoldenTwoBits : Type 0
 GoldenTwoBits = GoldenBitsBeforeField 2
 
 -- beyond it: up to so many bits anywhere in that message
-abbrev pub GoldenBits : ℕ → Type 0
-GoldenBits bits =
+abbrev pub GoldenBitsAnywhere : ℕ → Type 0
+GoldenBitsAnywhere bits =
     (f g : List ℕ) (n m r : ℕ) → Bytes f → Bytes g → checking f ≡ counted n → checking g ≡ counted m → r < n
     → DeclaresCrc (messageOf (recordAt f r)) → DeclaresCrc (messageOf (recordAt g r)) → length f ≡ length g → SameButMessage r f g
     → bitsApart (messageOf (recordAt f r)) (messageOf (recordAt g r)) ≤ bits → f ≡ g
 
-abbrev pub GoldenThreeBits : Type 0
-GoldenThreeBits = GoldenBits 3
+abbrev pub GoldenThreeBitsAnywhere : Type 0
+GoldenThreeBitsAnywhere = GoldenBitsAnywhere 3
 
 -- beyond demand 3: four neighbouring bytes anywhere behind the stored length of one record, the zeros after its message included,
 -- but for the windows left out

@@ -12,7 +12,7 @@ use Rattle.envelope.specs.TwoBits.{TwoBitsAnywhere, ThreeBitsAnywhere}
 use Rattle.envelope.proofs.DemandLaws as laws
 use Rattle.envelope.proofs.TwoBitsLaws as bits
 use Rattle.envelope.proofs.WindowLaws as windows
-use Rattle.golden.specs.Theorems.{GoldenDemand3, GoldenTwoBits, GoldenThreeBits, GoldenAnyWindow, GoldenMiddleWindow}
+use Rattle.golden.specs.Theorems.{GoldenDemand3, GoldenTwoBits, GoldenThreeBitsAnywhere, GoldenAnyWindow, GoldenMiddleWindow}
 use Rattle.golden.proofs.DemandLaws as golden
 
 -- a change inside four neighbouring bytes changes the sum
@@ -59,8 +59,8 @@ golden-two-bits = golden.golden-two-bits
 pub three-bits-anywhere : ThreeBitsAnywhere
 three-bits-anywhere = bits.three-bits-anywhere
 
-pub golden-three-bits : GoldenThreeBits
-golden-three-bits = golden.golden-three-bits
+pub golden-three-bits-anywhere : GoldenThreeBitsAnywhere
+golden-three-bits-anywhere = golden.golden-three-bits-anywhere
 
 pub any-window : AnyWindow
 any-window = windows.any-window

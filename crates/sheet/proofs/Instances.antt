@@ -3,7 +3,7 @@
 use mathlib.Core.Bool.{false, cond, not}
 use mathlib.Core.List.{List, [], _∷_}
 use mathlib.Core.Logic.{_⊎_, inl, inr}
-use mathlib.Core.Path.{_≡_, refl, ap, sym}
+use mathlib.Core.Path.{_≡_, refl, ap, sym, _∙_}
 use Prim.Native.Nat.{ℕ}
 use native.Mathlib.Omega.{arith}
 use denote.Ref.{RefT, now}
@@ -47,7 +47,7 @@ use Rattle.sheet.proofs.Cases.{starred}
 use Rattle.sheet.proofs.Demand1.{a-word-tells-its-slots, a-refusal-writes-nothing, a-refused-comparison-keeps-the-list, a-refused-making-keeps-the-buffer}
 use Rattle.sheet.proofs.Demand2.{written-then-read, written-buffer-then-read, read-then-written, same-fields-same-bytes, qos-joins-what-was-split, qos-splits-what-was-joined, file-walks-in-order, other-file-stays, checked-are-good, finds-the-first, made-is-good, never-a-beginning}
 use Rattle.sheet.proofs.Apart.{apart}
-use Rattle.sheet.proofs.Demand3.{four-bytes-show, thirty-two-bits-show, three-bits-show, bytes-at-the-edge-show, two-and-two-show, demand-3, demand-3-bits, golden-demand-3, three-bits-anywhere, golden-three-bits, any-window, golden-any-window, middle-window, golden-middle-window}
+use Rattle.sheet.proofs.Demand3.{four-bytes-show, thirty-two-bits-show, three-bits-show, bytes-at-the-edge-show, two-and-two-show, demand-3, demand-3-bits, golden-demand-3, three-bits-anywhere, golden-three-bits-anywhere, any-window, golden-any-window, middle-window, golden-middle-window}
 use Rattle.sheet.proofs.Limits.{limits, bytes-of-pair, pair-length, pair-outside}
 use Rattle.sheet.proofs.OneRecord.{one-checks, one-holds, one-declares}
 use Rattle.sheet.proofs.WrongAnswers.{givenM, writes-M}
@@ -214,7 +214,7 @@ file-of-C =
 
 pub file-of-C-in-three-bits : fileC ≡ fileC
 file-of-C-in-three-bits =
-    golden-three-bits fileC fileC 1 1 0 (bytes-of-pair .0) (bytes-of-pair .0) checks-C checks-C (omega arith) declares-in-file declares-in-file refl
+    golden-three-bits-anywhere fileC fileC 1 1 0 (bytes-of-pair .0) (bytes-of-pair .0) checks-C checks-C (omega arith) declares-in-file declares-in-file refl
     (λ i h. refl, λ i h. refl) (rw (bitsApart-same (messageOf (recordAt fileC 0))) (lit≤ tt))
 
 -- three bytes before the field and one in it; and the last two of the message with the first two zeros behind it
@@ -228,11 +228,13 @@ file-of-C-into-the-zeros =
     golden-any-window fileC fileC 1 1 0 21 (bytes-of-pair .0) (bytes-of-pair .0) checks-C checks-C (omega arith) declares-in-file declares-in-file
     (lit≤ tt) (rw holds-C (apart 23 19 tt)) refl (λ i h. refl, λ i h. refl)
 
-pub the-files-of-the-pair : (fileC ≡ recordOf acrossTheEdge) ⊎ OneDifference 19 fileC (recordOf acrossTheEdge)
+pub the-files-of-the-pair : OneDifference 19 fileC (recordOf acrossTheEdge)
 the-files-of-the-pair =
-    golden-middle-window fileC (recordOf acrossTheEdge) 1 1 0 17 (bytes-of-pair .0) (bytes-of-pair .1) checks-C
+    differing-so
+    (λ e. limits .they-differ (sym holds-C ∙ ap (λ (f : List ℕ). messageOf (recordAt f 0)) e ∙ one-holds acrossTheEdge (limits .second) (lit≤ tt)))
+    (golden-middle-window fileC (recordOf acrossTheEdge) 1 1 0 17 (bytes-of-pair .0) (bytes-of-pair .1) checks-C
     (one-checks acrossTheEdge (limits .second) (lit≤ tt)) (omega arith) declares-in-file (one-declares acrossTheEdge (limits .second) (lit≤ tt))
-    (rw holds-C refl) pair-length pair-outside
+    (rw holds-C refl) pair-length pair-outside)
 
 -- ---- the answer word: 25 with 7, of record 3
 

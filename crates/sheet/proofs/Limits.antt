@@ -7,7 +7,8 @@ use native.Mathlib.Omega.{arith}
 use lib.ListN.{length, take, drop}
 use lib.Seq.{getD-take, getD-drop}
 use Rattle.sum.specs.Crc.{crc32}
-use Rattle.sum.specs.Detection.{Bytes}
+use Rattle.sum.specs.Detection.{Bytes, bitsOf}
+use Rattle.sum.specs.Flips.{placesApart, bitsApart}
 use Rattle.sum.proofs.Computed.{literals, crc32-computes}
 use Rattle.envelope.specs.Addresses.{badAddresses}
 use Rattle.envelope.specs.Demand3.{SameOutside}
@@ -19,7 +20,7 @@ use Rattle.envelope.specs.Numbers.{byteAt, twoAt, threeAt, fourAt}
 use Rattle.envelope.specs.Reading.{headerOf, addressingOf, integrityOf, fieldsOf, readingWhole, reading}
 use Rattle.golden.specs.Making.{recordOf}
 use Rattle.sheet.specs.Cases.{C, fieldsOfC}
-use Rattle.sheet.specs.Limits.{acrossTheEdge, Limits}
+use Rattle.sheet.specs.Limits.{acrossTheEdge, Limits, shortBody, longBody, StoredLength}
 use Rattle.sheet.proofs.Apart.{apart}
 use Rattle.sheet.proofs.Cases.{starred}
 
@@ -76,3 +77,25 @@ pair-length = refl
 pub pair-outside : SameOutside 19 (recordOf C) (recordOf acrossTheEdge)
 unfolding recordOf
 pair-outside = same-but 19 23 (recordOf C) (recordOf acrossTheEdge) refl refl
+
+-- ---- the stored length
+
+stored-sums : (crc32 (take 21 shortBody) ≡ 0x68E3AEEC) × (crc32 (take 149 longBody) ≡ 0)
+stored-sums = (crc32-computes (take 21 shortBody) tt, crc32-computes (take 149 longBody) tt)
+
+abbrev fieldsWith : ℕ → ℕ → Fields
+fieldsWith size sum =
+    record { header = fieldsOfC .header; addressing = absent; body = record { place = 17; size = size }; integrity = crc sum }
+
+stored-read : (reading shortBody ≡ accepted (fieldsWith 4 0x68E3AEEC)) × (reading longBody ≡ accepted (fieldsWith 132 0))
+unfolding reading readingWhole fieldsOf headerOf addressingOf integrityOf heading announced badFlags badVariableSize badAddresses badIntegrity twoAt threeAt fourAt
+stored-read = (rw (stored-sums .0), rw (stored-sums .1))
+
+pub stored-length : StoredLength
+unfolding bitsApart bitsOf placesApart recordOf
+stored-length =
+    record {
+      first = record { fields = fieldsWith 4 0x68E3AEEC; accepts = stored-read .0; declares = refl };
+      second = record { fields = fieldsWith 132 0; accepts = stored-read .1; declares = refl };
+      three-apart = refl;
+    }

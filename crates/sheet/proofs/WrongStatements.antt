@@ -1,5 +1,5 @@
 -- Statements that are a step too strong, each refuted by a pair of messages that the checker computed, and by the files of one record that hold them.
--- Four bits where three are shown (FourBits), and no window left out (Limits).
+-- Four bits where three are shown (FourBits), three with the stored length, and no window left out (Limits).
 use mathlib.Core.List.{List}
 use mathlib.Core.Path.{_≡_, refl, ap, sym, _∙_}
 use Prim.Native.Nat.{ℕ, _+_, _%_, _≤_}
@@ -18,14 +18,14 @@ use Rattle.envelope.specs.TwoBits.{summed, BitsBeforeField, BitsAnywhere}
 use Rattle.golden.specs.File.{recordAt}
 use Rattle.golden.specs.Making.{recordOf}
 use Rattle.golden.specs.Record.{messageOf}
-use Rattle.golden.specs.Theorems.{SameButMessage, GoldenBitsBeforeField, GoldenBits, GoldenWindowsBut}
+use Rattle.golden.specs.Theorems.{SameButMessage, GoldenBitsBeforeField, GoldenBitsAnywhere, GoldenWindowsBut}
 use Rattle.sheet.specs.Cases.{C}
 use Rattle.sheet.specs.FourBits.{zeros, fourSet}
-use Rattle.sheet.specs.Limits.{acrossTheEdge}
+use Rattle.sheet.specs.Limits.{acrossTheEdge, shortBody, longBody, FileBits}
 use Rattle.sheet.proofs.Apart.{apart}
 use Rattle.sheet.proofs.Cases.{sum-of-C}
 use Rattle.sheet.proofs.FourBits.{sum-zeros, sum-four, four-bits}
-use Rattle.sheet.proofs.Limits.{sum-across, same-but, limits, bytes-of-pair, pair-length, pair-outside}
+use Rattle.sheet.proofs.Limits.{sum-across, same-but, limits, bytes-of-pair, pair-length, pair-outside, stored-length}
 use Rattle.sheet.proofs.OneRecord.{one-checks, one-holds, one-declares}
 
 -- ---- four bits
@@ -105,8 +105,8 @@ golden-four-bits-before-the-field-pass law =
     (rw (holds-zeros, holds-four) (omega (arith, apart-before)))
     (rw (holds-zeros, holds-four) (omega (arith, apart-before)))
 
-pub golden-four-bits-pass : GoldenBits 4 → ⊥
-golden-four-bits-pass law =
+pub golden-four-bits-anywhere-pass : GoldenBitsAnywhere 4 → ⊥
+golden-four-bits-anywhere-pass law =
     zeros-are-not-four (sym holds-zeros ∙ ap (λ (f : List ℕ). messageOf (recordAt f 0)) same ∙ holds-four)
   where
     same : fileZeros ≡ fileFour
@@ -115,6 +115,29 @@ golden-four-bits-pass law =
         (one-checks zeros (four-bits .first) (four-bits .short)) (one-checks fourSet (four-bits .second) (four-bits .short)) (lit< tt)
         (one-declares zeros (four-bits .first) (four-bits .short)) (one-declares fourSet (four-bits .second) (four-bits .short)) one-length same-but-message
         (rw (holds-zeros, holds-four) (omega (arith, four-bits .four-apart)))
+
+-- ---- three bits of a file, one of them in a stored length
+
+bytes-of-lengths : Bytes (recordOf shortBody) × Bytes (recordOf longBody)
+unfolding recordOf
+bytes-of-lengths = (literals (recordOf shortBody) tt, literals (recordOf longBody) tt)
+
+lengths-long : length (recordOf shortBody) ≡ length (recordOf longBody)
+unfolding recordOf
+lengths-long = refl
+
+pub three-bits-of-a-record-pass : FileBits 3 → ⊥
+three-bits-of-a-record-pass law =
+    apart 0x04 0x84 tt
+    (ap (λ (m : List ℕ). byteAt m 7)
+    (sym (one-holds shortBody (stored-length .first) (lit≤ tt)) ∙ ap (λ (f : List ℕ). messageOf (recordAt f 0)) same ∙ one-holds longBody (stored-length .second) (lit≤ tt)))
+  where
+    same : recordOf shortBody ≡ recordOf longBody
+    same =
+        law (recordOf shortBody) (recordOf longBody) 1 1 0 (bytes-of-lengths .0) (bytes-of-lengths .1)
+        (one-checks shortBody (stored-length .first) (lit≤ tt)) (one-checks longBody (stored-length .second) (lit≤ tt)) (lit< tt)
+        (one-declares shortBody (stored-length .first) (lit≤ tt)) (one-declares longBody (stored-length .second) (lit≤ tt)) lengths-long
+        (omega (arith, stored-length .three-apart))
 
 -- ---- no window left out: two bytes before the field and two in it
 

@@ -72,7 +72,7 @@ placesApart-ones (a ∷ u) (b ∷ v) hu hv l =
 
 -- ---- of bytes
 
-pub bitsApart-ones : (x y : List ℕ) → Bytes x → Bytes y → length x ≡ length y → bitsApart x y ≡ ones (8 * length x) (bitXor (number 8 x) (number 8 y))
+bitsApart-ones : (x y : List ℕ) → Bytes x → Bytes y → length x ≡ length y → bitsApart x y ≡ ones (8 * length x) (bitXor (number 8 x) (number 8 y))
 unfolding bitsApart
 bitsApart-ones x y hx hy l =
     placesApart-ones (bitsOf x) (bitsOf y) (bits-fit x) (bits-fit y) (omega (arith, bits-length x, bits-length y))

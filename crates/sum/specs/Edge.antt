@@ -14,7 +14,7 @@ DetectsAtEdgeBut LeftOut =
     (p x y : List ℕ) → Bytes p → Bytes x → Bytes y → length x ≡ length y → length x ≤ 4 → (LeftOut (length x) → ⊥)
     → crc32 (p ++ x) % 2 ^ (8 * length x) ≡ crc32 (p ++ y) % 2 ^ (8 * length x) → x ≡ y
 
--- all numbers but two
+-- any number of last bytes up to four, but not exactly two
 abbrev pub DetectsAtEdge : Type 0
 DetectsAtEdge = DetectsAtEdgeBut (λ n. n ≡ 2)
 
