@@ -157,16 +157,16 @@ quotient-linear a b =
 abbrev beside : ℕ → ℕ
 beside q = rights (1 ∷ []) q q
 
-abbrev apart : ℕ → ℕ
-apart q = rights (26 ∷ 16 ∷ 10 ∷ []) q q
+abbrev alone : ℕ → ℕ
+alone q = rights (26 ∷ 16 ∷ 10 ∷ []) q q
 
 abbrev remains : ℕ → ℕ
-remains q = rights (22 ∷ 11 ∷ 7 ∷ 4 ∷ 1 ∷ []) (beside q) (apart q)
+remains q = rights (22 ∷ 11 ∷ 7 ∷ 4 ∷ 1 ∷ []) (beside q) (alone q)
 
 remains-linear : Linear remains
 remains-linear a b =
     ap₂ (rights (22 ∷ 11 ∷ 7 ∷ 4 ∷ 1 ∷ [])) (rights-linear (1 ∷ []) a b a b) (rights-linear (26 ∷ 16 ∷ 10 ∷ []) a b a b)
-    ∙ rights-linear (22 ∷ 11 ∷ 7 ∷ 4 ∷ 1 ∷ []) (beside a) (beside b) (apart a) (apart b)
+    ∙ rights-linear (22 ∷ 11 ∷ 7 ∷ 4 ∷ 1 ∷ []) (beside a) (beside b) (alone a) (alone b)
 
 abbrev settled : ℕ → ℕ
 settled x = remains (quotient x)

@@ -67,7 +67,7 @@ unfolding bitSteps
 bitSteps-shifted zero a = mul-one a
 bitSteps-shifted (suc n) a = ap (bitSteps n) (bitStep-shifted a n) ∙ bitSteps-shifted n a
 
--- n bits at once: the steps of the n low digits, with the other digits added. It is the rule of a table of 2 ^ n entries
+-- n bits at once: the steps of the n low digits, with the other digits added
 pub bitSteps-low : (n state : ℕ) → bitSteps n state ≡ bitXor (bitSteps n (state % 2 ^ n)) (state / 2 ^ n)
 bitSteps-low n state =
     ap (bitSteps n) (sym (xor-shifted (state / 2 ^ n) n (state % 2 ^ n) (mod-lt state (pow-pos n)) ∙ split state n))

@@ -13,7 +13,8 @@ unfoldable pub number : ℕ → List ℕ → ℕ
 number w [] = 0
 number w (d ∷ ds) = number w ds * 2 ^ w + d
 
--- the multiple of the polynomial that `word_step` adds: few terms, a gap as long as a word after the first, and an end soon after
+-- the multiple that `word_step` adds, of the polynomial with the bit that a step drops (1 + 2 * polynomial): few terms, a gap as long as a word after the
+-- first, and an end soon after
 abbrev pub multiple : ℕ
 multiple = 1 + 2 ^ 64 + 2 ^ 80 + 2 ^ 87 + 2 ^ 105 + 2 ^ 111 + 2 ^ 112 + 2 ^ 119 + 2 ^ 120
 

@@ -2,9 +2,10 @@
 // Rests on nothing; the layers above know only what `crc` promises.
 //
 // Adding is exclusive or throughout. A message is one long number, its first bit lowest, with all ones added to its first 32 bits.
-// A bit step drops the lowest bit, and where that was a 1 it adds the polynomial to what is left; a step for each bit leaves the state.
-// `multiple` (specs/Words) is a number of which such steps leave nothing. They are linear, so adding it anywhere changes no state, as
-// long as it ends within the 32 bits after the message, which are all that can be left.
+// A bit step drops the lowest bit, and where that was a 1 it adds EDB88320 to what is left; a step for each bit leaves the state.
+// With the bit that it drops, that is adding P = 1 + 2 * EDB88320, of 33 bits, and then shifting.
+// `multiple` (specs/Words) is a multiple of P, so such steps leave nothing of it. They are linear, so adding it anywhere changes no
+// state, as long as it ends within the 32 bits after the message, which are all that can be left.
 // It has its lowest bit, none of the next 63, and eight more. Added at each 1 of a word of 64 bits it clears that word, and what it
 // leaves in the two words after is the word itself, shifted eight ways: `word_step`, by twelve shifts in place of a table.
 // Near the end there is no room for it. The last bytes, eighteen at most, are taken four at a time and then one by one: they are
@@ -134,18 +135,18 @@ fn byte_step(pending: Pending, byte: u8) -> Pending
     }
 }
 
-// 32 bit steps at once. `quotient` times the polynomial has the number as its 32 low bits, and the steps leave what is above.
+// 32 bit steps at once. `quotient` times P has the number as its 32 low bits, and the steps leave what is above.
 fn settle(low: u32) -> u32
     ensures { λ r. ⌜ r ≡ bitSteps 32 low ⌝ }
 {
-    // The polynomial's inverse has 13 terms below 2^32: five single ones, and four pairs that stand two apart.
+    // P's inverse has 13 terms below 2^32: five single ones, and four pairs, the second of each two places above the first.
     let pair = low ^ (low << 2);
     let single = low ^ (low << 6) ^ (low << 9) ^ (low << 16) ^ (low << 25);
     let quotient = single ^ (pair << 10) ^ (pair << 24) ^ (pair << 28) ^ (pair << 29);
-    // Of the polynomial's own terms four stand apart, and ten side by side.
+    // Of P's 15 terms the lowest leaves nothing above; of the others four are single, and ten stand in pairs of neighbours.
     let beside = quotient ^ (quotient >> 1);
-    let apart = quotient ^ (quotient >> 26) ^ (quotient >> 16) ^ (quotient >> 10);
-    apart ^ (beside >> 22) ^ (beside >> 11) ^ (beside >> 7) ^ (beside >> 4) ^ (beside >> 1)
+    let alone = quotient ^ (quotient >> 26) ^ (quotient >> 16) ^ (quotient >> 10);
+    alone ^ (beside >> 22) ^ (beside >> 11) ^ (beside >> 7) ^ (beside >> 4) ^ (beside >> 1)
 }
 
 // At most eight bytes from a place on, the first lowest. With their count known, the compiler makes one load of the loop.
@@ -162,6 +163,7 @@ fn bytes_at(bytes: &[u8], place: usize, count: usize) -> u64
     value
 }
 
+// A byte as a word; that it keeps its value is a promise, which the proof of the loop above cites.
 fn wide(byte: u8) -> u64
     ensures { λ r. ⌜ r ≡ byte ⌝ }
 {
