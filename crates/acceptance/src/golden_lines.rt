@@ -1,11 +1,32 @@
-// A line for each answer about a golden file, and what lent storage holds after it.
-// Rests on the crate `golden`, whose answers are printed as they are.
+// The commands about the golden file that is worked on.
+// Every number printed was worked out by a proved function of `golden`.
+use crate::byte_words::bytes_to_end;
+use crate::cursor::Cursor;
+use crate::cursor::between;
+use crate::cursor::end;
+use crate::cursor::named;
+use crate::cursor::word;
+use crate::envelope_lines::MOST;
+use crate::envelope_lines::number_of;
+use crate::envelope_lines::room_of;
+use crate::lent::BLANK;
+use crate::lent::ROOM;
+use crate::lent::front;
+use crate::lent::front_places;
+use crate::list_words::MOST_ENTRIES;
+use crate::list_words::list;
+use crate::printing::buffer;
+use crate::printing::counted;
 use crate::printing::end_line;
-use crate::printing::hex_byte;
-use crate::printing::hex_bytes;
 use crate::printing::number;
 use crate::printing::refused;
 use crate::printing::text;
+use crate::widths::LARGEST;
+use crate::widths::LARGEST_FOUR;
+use crate::widths::LARGEST_TWO;
+use crate::widths::four;
+use crate::widths::two;
+use envelope::Refusal;
 use golden::Checking;
 use golden::Comparison;
 use golden::Counting;
@@ -23,146 +44,165 @@ use golden::find;
 use golden::make;
 use golden::step;
 
-// The bytes of a buffer that are shown.
-const FRONT: usize = 24;
-
-pub fn checked(name: &[u8], file: &[u8]) {
-    text(b"check ");
-    text(name);
+pub fn check_line(line: &[u8], head: &[u8], cursor: Cursor, file: &[u8]) {
+    if end(line, cursor).failed {
+        return;
+    }
+    text(head);
     match check(file) {
-        Checking::Count(records) => {
-            text(b": records");
-            number(records as u64);
+        Checking::Count(records) => counted(b" records", records as u64),
+        Checking::NotAFile => {
+            at_record(0);
+            plainly(21);
         }
-        Checking::NotAFile => text(b": record 0 refused 21 0"),
         Checking::Bad { record, fault } => {
-            text(b": record");
-            number(record as u64);
+            at_record(record);
             bad(fault);
         }
     }
     end_line();
 }
 
-pub fn found(words: &[u8], file: &[u8], name: Name) {
-    text(b"find ");
-    text(words);
-    text(b":");
-    match find(file, name) {
+pub fn find_line(line: &[u8], head: &[u8], cursor: Cursor, file: &[u8]) {
+    let message_type = named(line, cursor, b"type", LARGEST_TWO);
+    let message_number = named(line, message_type.cursor, b"number", LARGEST_FOUR);
+    if end(line, message_number.cursor).failed {
+        return;
+    }
+    text(head);
+    found(find(
+        file,
+        Name {
+            message_type: two(message_type.value),
+            number: four(message_number.value),
+        },
+    ));
+    end_line();
+}
+
+fn at_record(record: usize) {
+    counted(b" record", record as u64);
+}
+
+// The answer, and how many records were opened for it.
+fn found(answer: Finding) {
+    let opened = found_or_not(answer);
+    counted(b" opened", opened as u64);
+}
+
+fn found_or_not(answer: Finding) -> usize {
+    match answer {
         Finding::Found { record, opened } => {
-            text(b" record");
-            number(record as u64);
-            opened_records(opened);
+            at_record(record);
+            opened
         }
         Finding::Missing { opened } => {
-            text(b" refused 27 0");
-            opened_records(opened);
+            plainly(27);
+            opened
         }
         Finding::NotAFile => {
-            text(b" refused 21 0");
-            opened_records(0);
+            plainly(21);
+            0
         }
         Finding::Bad { fault, opened } => {
             bad(fault);
-            opened_records(opened);
+            opened
         }
     }
+}
+
+pub fn step_line(line: &[u8], head: &[u8], cursor: Cursor, file: &[u8]) {
+    let at = named(line, cursor, b"at", LARGEST);
+    if end(line, at.cursor).failed {
+        return;
+    }
+    text(head);
+    let next = step_shown(file, at.value as usize);
+    counted(b" next", next as u64);
     end_line();
 }
 
-fn opened_records(opened: usize) {
-    text(b" opened");
-    number(opened as u64);
-}
-
-// What the step answers, a message as its first place and its length, and the next record.
-pub fn stepped(name: &[u8], file: &[u8], n: usize) {
-    text(b"step ");
-    text(name);
-    text(b", at");
-    number(n as u64);
-    text(b":");
-    let stepping = step(file, n);
-    let answer = stepping.answer;
+fn reached(answer: Reached) {
     match answer {
         Reached::Message(part) => {
-            text(b" message");
-            number(part.place as u64);
+            counted(b" message", part.place as u64);
             number(part.size as u64);
         }
         Reached::Bad(fault) => bad(fault),
-        Reached::NotAFile => text(b" refused 21 0"),
+        Reached::NotAFile => plainly(21),
         Reached::End => text(b" end"),
     }
-    text(b" next");
-    number(stepping.next as u64);
+}
+
+pub fn walk_line(line: &[u8], head: &[u8], cursor: Cursor, file: &[u8]) {
+    if end(line, cursor).failed {
+        return;
+    }
+    text(head);
+    walked(file);
     end_line();
 }
 
-pub fn counted(name: &[u8], file: &[u8]) {
-    text(b"count ");
-    text(name);
-    match count(file) {
-        Counting::Count(records) => {
-            text(b": records");
-            number(records as u64);
+// A step that does not move on is the last. A file has fewer records than bytes, so the turns are enough.
+fn walked(file: &[u8]) {
+    let mut at = 0;
+    let mut turns = file.len();
+    while turns > 0 {
+        let next = step_shown(file, at);
+        if next == at {
+            return;
         }
-        Counting::NotAFile => text(b": refused 21 0"),
+        text(b",");
+        at = next;
+        turns -= 1;
     }
+    step_shown(file, at);
+}
+
+// What the step answers; the next record.
+fn step_shown(file: &[u8], at: usize) -> usize {
+    let stepping = step(file, at);
+    let answer = stepping.answer;
+    reached(answer);
+    stepping.next
+}
+
+pub fn compare_line(line: &[u8], head: &[u8], cursor: Cursor, file: &[u8], storage: &mut [u8]) {
+    let record = named(line, cursor, b"record", LARGEST);
+    let mut places = [0u32; MOST_ENTRIES];
+    let lent = list(
+        line,
+        word(line, record.cursor, b"list"),
+        b"with",
+        &mut places,
+    );
+    let taken = bytes_to_end(line, word(line, lent.cursor, b"with"), MOST, storage);
+    if taken.cursor.failed {
+        return;
+    }
+    text(head);
+    let room = front_places(&mut places, lent.count);
+    compared(compare(
+        file,
+        record.value as usize,
+        between(storage, 0, taken.count),
+        room,
+    ));
+    text(b" list");
+    numbers(room);
     end_line();
 }
 
-pub fn entered(name: &[u8], file: &[u8], n: usize) {
-    text(b"entry ");
-    text(name);
-    text(b", at");
-    number(n as u64);
-    text(b":");
-    match entry_at(file, n) {
-        Entry::Good {
-            message_type,
-            number: message_number,
-            size,
-        } => good(message_type, message_number, size),
-        Entry::Bad(fault) => bad(fault),
-        Entry::NoRecord => text(b" refused 22 0"),
-        Entry::NotAFile => text(b" refused 21 0"),
-    }
-    end_line();
-}
-
-fn good(message_type: u16, message_number: u32, size: usize) {
-    number(message_type as u64);
-    number(message_number as u64);
-    number(size as u64);
-}
-
-// The answer, and the lent list after it.
-pub fn compared(name: &[u8], file: &[u8], n: usize, radio: &[u8], places: &mut [u32]) {
-    let answer = compare(file, n, radio, places);
-    text(b"compare ");
-    text(name);
-    text(b":");
+fn compared(answer: Comparison) {
     match answer {
         Comparison::Same => text(b" same"),
-        Comparison::Different(total) => {
-            text(b" different");
-            number(total as u64);
-        }
-        Comparison::NotAFile => text(b" refused 21 0"),
-        Comparison::NoRecord => text(b" refused 22 0"),
+        Comparison::Different(total) => counted(b" different", total as u64),
+        Comparison::NotAFile => plainly(21),
+        Comparison::NoRecord => plainly(22),
         Comparison::Bad(fault) => bad(fault),
-        Comparison::RadioUnread(refusal) => refused(b" refused 31", refusal),
-        Comparison::Beginning => text(b" refused 32 0"),
+        Comparison::RadioUnread(refusal) => passing_on(31, refusal),
+        Comparison::Beginning => plainly(32),
     }
-    list(b"", places);
-}
-
-pub fn list(words: &[u8], places: &[u32]) {
-    text(words);
-    text(b" list");
-    numbers(places);
-    end_line();
 }
 
 fn numbers(list: &[u32]) {
@@ -177,58 +217,94 @@ fn place(n: u32) {
     number(n as u64);
 }
 
-pub fn made(name: &[u8], message: &[u8], buffer: &mut [u8]) {
-    let answer = make(message, buffer);
-    text(b"make ");
-    text(name);
-    match answer {
-        Making::Made => text(b": made"),
-        Making::TooLong => text(b": refused 33 0"),
-        Making::Unread(refusal) => refused(b": refused 34", refusal),
-        Making::WrongBuffer => text(b": refused 35 0"),
+pub fn make_line(line: &[u8], head: &[u8], cursor: Cursor, storage: &mut [u8]) {
+    let room = room_of(line, cursor);
+    let taken = bytes_to_end(line, room.cursor, MOST, storage);
+    if taken.cursor.failed {
+        return;
     }
-    shown(buffer);
+    text(head);
+    made(between(storage, 0, taken.count), room.value);
+}
+
+fn made(message: &[u8], room: u64) {
+    let mut blank = [BLANK; ROOM];
+    let lent = front(&mut blank, room);
+    match make(message, lent) {
+        Making::Made => text(b" made"),
+        Making::TooLong => plainly(33),
+        Making::Unread(refusal) => passing_on(34, refusal),
+        Making::WrongBuffer => plainly(35),
+    }
+    buffer(lent);
     end_line();
 }
 
-// The first bytes, and what the rest holds.
-fn shown(buffer: &[u8]) {
-    if FRONT < buffer.len() {
-        front(&buffer[..FRONT]);
-        rest(&buffer[FRONT..], buffer[FRONT]);
-    }
-}
-
-fn front(bytes: &[u8]) {
-    text(b" [");
-    hex_bytes(bytes);
-    text(b"]");
-}
-
-// Whether the bytes are all this one.
-fn rest(bytes: &[u8], byte: u8) {
-    if alike(bytes, byte) {
-        text(b" and all after ");
-        hex_byte(byte);
+pub fn entry_line(line: &[u8], head: &[u8], cursor: Cursor, file: &[u8]) {
+    let at = named(line, cursor, b"at", LARGEST);
+    if end(line, at.cursor).failed {
         return;
     }
-    text(b" and others");
+    text(head);
+    entered(entry_at(file, at.value as usize));
+    end_line();
 }
 
-fn alike(bytes: &[u8], byte: u8) -> bool {
-    let mut i = 0;
-    while i < bytes.len() {
-        if bytes[i] != byte {
-            return false;
+fn entered(answer: Entry) {
+    match answer {
+        Entry::Good {
+            message_type,
+            number: message_number,
+            size,
+        } => {
+            number(message_type as u64);
+            number(message_number as u64);
+            number(size as u64);
         }
-        i += 1;
+        Entry::Bad(fault) => bad(fault),
+        Entry::NoRecord => plainly(22),
+        Entry::NotAFile => plainly(21),
     }
-    true
+}
+
+pub fn list_line(line: &[u8], head: &[u8], cursor: Cursor, file: &[u8]) {
+    if end(line, cursor).failed {
+        return;
+    }
+    text(head);
+    match count(file) {
+        Counting::Count(records) => {
+            counted(b" records", records as u64);
+            entries(file, records);
+        }
+        Counting::NotAFile => plainly(21),
+    }
+    end_line();
+}
+
+fn entries(file: &[u8], records: usize) {
+    let mut n = 0;
+    while n < records {
+        counted(b";", n as u64);
+        entered(entry_at(file, n));
+        n += 1;
+    }
+}
+
+// ---- refusals: their own number, and that of reading or 0
+
+fn plainly(own: u64) {
+    refused(own);
+    number(0);
+}
+
+fn passing_on(own: u64, refusal: Refusal) {
+    refused(own);
+    number(number_of(refusal));
 }
 
 fn bad(fault: RecordFault) {
     let numbers = fault.numbers();
-    text(b" refused");
-    number(numbers.number as u64);
+    refused(numbers.number as u64);
     number(numbers.reading as u64);
 }

@@ -1,153 +1,84 @@
-// Readings: the worked examples of document 01, and messages of each kind.
-// The messages and the lines expected of them were made by a program of another language, with zlib for the sums.
-use crate::printing::reading;
+// An answer of reading, field by field.
+// Rests on the crate `envelope`.
+use crate::envelope_lines::number_of;
+use crate::printing::counted;
+use crate::printing::hex_bytes;
+use crate::printing::hex_word;
+use crate::printing::number;
+use crate::printing::refused;
+use crate::printing::text;
+use envelope::Addressing;
+use envelope::Envelope;
+use envelope::Header;
+use envelope::Integrity;
+use envelope::Part;
+use envelope::Reading;
+use envelope::read;
 
-// Cases a to f: the header and the field.
-pub fn header_examples() {
-    reading(
-        b"a, M",
-        b"\x04\x17\x70\x01\x00\x00\x00\x00\x00\x00\x00\x01\x00\x00\x00\x00\x00\x00\x00\x00\x00",
-    );
-    reading(
-        b"b, a byte short",
-        b"\x04\x17\x70\x01\x00\x00\x00\x00\x00\x00\x00\x01\x00\x00\x00\x00\x00\x00\x00\x00",
-    );
-    reading(
-        b"c, header version 3",
-        b"\x03\x17\x70\x01\x00\x00\x00\x00\x00\x00\x00\x01\x00\x00\x00\x00\x00\x00\x00\x00\x00",
-    );
-    reading(
-        b"d, V 5",
-        b"\x04\x17\x70\x01\x00\x00\x00\x00\x00\x00\x00\x01\x00\x00\x00\x00\x05\x00\x00\x00\x00",
-    );
-    reading(
-        b"e, a byte more",
-        b"\x04\x17\x70\x01\x00\x00\x00\x00\x00\x00\x00\x01\x00\x00\x00\x00\x00\x00\x00\x00\x00\x00",
-    );
-    reading(
-        b"f, a field of 1",
-        b"\x04\x17\x70\x01\x00\x00\x00\x00\x00\x00\x00\x01\x00\x00\x00\x00\x00\x00\x00\x00\x01",
-    );
+pub fn reading(message: &[u8]) {
+    match read(message) {
+        Reading::Accepted(accepted) => fields(accepted, message),
+        Reading::Refused(refusal) => refused(number_of(refusal)),
+    }
 }
 
-// Cases g to i: a body, and addresses.
-pub fn address_examples() {
-    reading(
-        b"g, one body byte",
-        b"\x04\x17\x70\x01\x00\x00\x00\x01\x00\x00\x00\x01\x00\x00\x00\x00\x00\x41\x00\x00\x00\x00",
-    );
-    reading(
-        b"h, two empty ends",
-        b"\x04\x17\x70\x01\x00\x00\x00\x00\x00\x00\x00\x01\x00\x00\x00\x00\x06\x00\x78\x00\x00\x00\x00\x00\x00\x00\x00",
-    );
-    reading(
-        b"i, no second zero",
-        b"\x04\x17\x70\x01\x00\x00\x00\x00\x00\x00\x00\x01\x00\x00\x00\x00\x07\x00\x78\x00\x00\x41\x41\x00\x00\x00\x00\x00",
-    );
-    reading(
-        b"i, a source of one letter",
-        b"\x04\x17\x70\x01\x00\x00\x00\x00\x00\x00\x00\x01\x00\x00\x00\x00\x07\x00\x78\x00\x00\x41\x00\x00\x00\x00\x00\x00",
-    );
-    reading(
-        b"i, a destination of one letter",
-        b"\x04\x17\x70\x01\x00\x00\x00\x00\x00\x00\x00\x01\x00\x00\x00\x00\x07\x00\x78\x00\x00\x00\x41\x00\x00\x00\x00\x00",
-    );
-    reading(b"no bytes", b"");
+fn fields(accepted: Envelope, message: &[u8]) {
+    text(b" accepted");
+    header(accepted.header);
+    let addressed = accepted.addressing;
+    addressing(addressed, message);
+    text(b" body");
+    part(accepted.body, message);
+    let held = accepted.integrity;
+    integrity(held);
 }
 
-pub fn kinds() {
-    reading(
-        b"kind CRC",
-        b"\x04\x17\x70\x01\x08\x00\x00\x02\x00\x00\x00\x01\x00\x00\x00\x00\x00\x00\x00\xd9\x29\x9f\x95",
-    );
-    reading(
-        b"kind CRC, wrong sum",
-        b"\x04\x17\x70\x01\x08\x00\x00\x02\x00\x00\x00\x01\x00\x00\x00\x00\x00\x00\x00\xd9\x29\x9f\x94",
-    );
-    reading(
-        b"flags zero beside a right CRC",
-        b"\x04\x17\x70\x01\x00\x00\x00\x02\x00\x00\x00\x01\x00\x00\x00\x00\x06\x00\x78\x00\x00\x00\x00\x7b\x7d\x9b\x4d\x3b\x95",
-    );
-    reading(
-        b"encrypted and compressed",
-        b"\x04\x17\x70\x01\x06\x00\x00\x02\x00\x00\x00\x01\x00\x00\x00\x00\x00\xde\xad\x00\x00\x00\x00",
-    );
-    reading(
-        b"encrypted and compressed with CRC",
-        b"\x04\x17\x70\x01\x0e\x00\x00\x02\x00\x00\x00\x01\x00\x00\x00\x00\x00\xde\xad\x4c\x0f\x7c\xa3",
-    );
+fn header(h: Header) {
+    counted(b" type", h.message_type as u64);
+    counted(b" version", h.version as u64);
+    counted(b" flags", h.flags as u64);
+    counted(b" number", h.number as u64);
+    counted(b" time", h.time as u64);
 }
 
-pub fn applications() {
-    reading(
-        b"application, 0",
-        b"\x04\x17\x70\x01\x10\x00\x00\x00\x00\x00\x00\x01\x00\x00\x00\x00\x00\x00\x00\x00\x00",
-    );
-    reading(
-        b"application, all ones",
-        b"\x04\x17\x70\x01\x10\x00\x00\x00\x00\x00\x00\x01\x00\x00\x00\x00\x00\xff\xff\xff\xff",
-    );
-    reading(
-        b"application, any number",
-        b"\x04\x17\x70\x01\x10\x00\x00\x01\x00\x00\x00\x01\x00\x00\x00\x00\x00\x78\x12\x34\x56\x78",
-    );
+fn addressing(held: Addressing, message: &[u8]) {
+    match held {
+        Addressing::Absent => text(b" unaddressed"),
+        Addressing::Present {
+            ttl,
+            qos,
+            source,
+            destination,
+        } => {
+            counted(b" ttl", ttl as u64);
+            counted(b" qos", qos as u64);
+            text(b" source");
+            part(source, message);
+            text(b" destination");
+            part(destination, message);
+        }
+    }
 }
 
-pub fn flags() {
-    reading(
-        b"kind 3",
-        b"\x04\x17\x70\x01\x18\x00\x00\x00\x00\x00\x00\x01\x00\x00\x00\x00\x00\x00\x00\x00\x00",
-    );
-    reading(
-        b"bit 5",
-        b"\x04\x17\x70\x01\x20\x00\x00\x00\x00\x00\x00\x01\x00\x00\x00\x00\x00\x00\x00\x00\x00",
-    );
-    reading(
-        b"bit 7",
-        b"\x04\x17\x70\x01\x80\x00\x00\x00\x00\x00\x00\x01\x00\x00\x00\x00\x00\x00\x00\x00\x00",
-    );
+// A part's first place, its size, and its bytes in hex.
+fn part(p: Part, message: &[u8]) {
+    number(p.place as u64);
+    number(p.size as u64);
+    text(b" [");
+    hex_bytes(p.slice(message));
+    text(b"]");
 }
 
-// A message with everything, and two sums that an old hand would work out.
-pub fn sums() {
-    reading(
-        b"absolute time",
-        b"\x04\x17\x70\x01\x01\x00\x00\x05\x00\x00\x00\x01\x65\x53\xf1\x00\x1b\x00\x3c\x00\x08\x75\x70\x2e\x6c\x2e\x35\x35\x36\x30\x3a\x72\x00\x63\x73\x78\x2e\x62\x3a\x63\x62\x74\x6d\x00\x68\x65\x6c\x6c\x6f\x00\x00\x00\x00",
-    );
-    reading(
-        b"a sum over the body only",
-        b"\x04\x17\x70\x01\x08\x00\x00\x04\x00\x00\x00\x01\x00\x00\x00\x00\x00\x62\x6f\x64\x79\xdb\xa8\x0b\xb2",
-    );
-    reading(
-        b"a sum with the field as zeros",
-        b"\x04\x17\x70\x01\x08\x00\x00\x04\x00\x00\x00\x01\x00\x00\x00\x00\x00\x62\x6f\x64\x79\x76\xb6\x90\x24",
-    );
-}
-
-// Case j: two ends of 63 letters, a V past the largest, and a source of 64 letters.
-pub fn longest_addresses() {
-    addressed(b"j, two ends of 63 letters", 132, 0, LETTER);
-    addressed(b"j, V 133", 133, 0, LETTER);
-    addressed(b"j, a source of 64 letters", 132, LETTER, 0);
-}
-
-const LETTER: u8 = 0x41;
-
-// 153 bytes with letters for addresses, with these at places 84 and 85, where the source of 63 letters or of 64 ends.
-fn addressed(name: &[u8], v: u8, after_63: u8, after_64: u8) {
-    let mut message = [LETTER; 153];
-    message[0] = 4;
-    message[4] = 0;
-    message[5] = 0;
-    message[6] = 0;
-    message[7] = 0;
-    message[16] = v;
-    message[84] = after_63;
-    message[85] = after_64;
-    message[148] = 0;
-    message[149] = 0;
-    message[150] = 0;
-    message[151] = 0;
-    message[152] = 0;
-    reading(name, &message);
+fn integrity(held: Integrity) {
+    match held {
+        Integrity::None => text(b" integrity none"),
+        Integrity::Crc(sum) => {
+            text(b" integrity crc");
+            hex_word(sum);
+        }
+        Integrity::Application(n) => {
+            text(b" integrity application");
+            hex_word(n);
+        }
+    }
 }

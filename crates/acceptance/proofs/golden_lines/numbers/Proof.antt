@@ -1,4 +1,4 @@
--- `golden_lines::numbers` stays inside the list, and ends.
+-- `golden_lines::numbers` prints one number after another, and ends.
 use Prim.Native.Nat.{_-_, _≤_}
 use borrow.Author.Needs.{needs}
 use lib.ListN.{length}

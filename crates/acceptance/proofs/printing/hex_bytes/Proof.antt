@@ -1,4 +1,4 @@
--- `printing::hex_bytes` stays inside the bytes, and ends.
+-- `printing::hex_bytes` prints one byte after another, and ends.
 use Prim.Native.Nat.{_-_, _≤_}
 use borrow.Author.Needs.{needs}
 use lib.ListN.{length}
