@@ -5,10 +5,10 @@ use super::lent::hex;
 use super::run::Run;
 use super::{ask_envelope, ask_golden, inputs};
 use crate::interface::Timing;
-use crate::random::Random;
 use peer::crc::Division;
 use peer::envelope::{COMMON, FIELD, SHORTEST};
 use peer::golden::{self, Step, LONGEST_MESSAGE, MOST_RECORDS};
+use peer::random::Random;
 
 pub struct Family {
     pub name: &'static str,

@@ -3,10 +3,10 @@
 
 use crate::interface::Order;
 use crate::mirror;
-use crate::random::Random;
 use peer::crc::{Division, Sum};
 use peer::envelope::{COMMON, FIELD, LONGEST_END, SERVICE, SHORTEST};
 use peer::golden::{LONGEST_MESSAGE, PREFIX, RECORD};
+use peer::random::Random;
 
 /// Assigned flags: two options and a time format beside each of three kinds.
 const GOOD_FLAGS: usize = 24;

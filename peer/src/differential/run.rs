@@ -4,7 +4,7 @@
 use super::lent::{Cell, Lent};
 use super::tally::{Operation, Outcome, Tally};
 use crate::interface::Answer;
-use crate::random::Random;
+use peer::random::Random;
 use std::fmt::Debug;
 use std::process;
 

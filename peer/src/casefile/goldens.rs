@@ -1,0 +1,108 @@
+//! The commands about the golden file that is worked on.
+
+use super::arguments::{bytes, list as numbers, MOST_BYTES};
+use super::complaint::Complaint;
+use super::envelopes::room;
+use super::printed::{buffer, refused};
+use super::words::Words;
+use crate::crc::Division;
+use crate::golden::{self, Step};
+
+type Answer = Result<String, Complaint>;
+
+/// A record's number. None is this large, so it may be cut to what a machine can count to.
+pub fn record(words: &mut Words, name: &'static str) -> Result<usize, Complaint> {
+    Ok(usize::try_from(words.named(name, u64::MAX)?).unwrap_or(usize::MAX))
+}
+
+pub fn check(words: &mut Words, file: &[u8]) -> Answer {
+    words.end()?;
+    Ok(match golden::check::<Division>(file) {
+        Ok(count) => format!("records {count}"),
+        Err(bad) => format!("record {} {}", bad.record, refused(bad.refusal)),
+    })
+}
+
+pub fn find(words: &mut Words, file: &[u8]) -> Answer {
+    let message_type = words.named("type", u16::MAX.into())? as u16;
+    let number = words.named("number", u32::MAX.into())? as u32;
+    words.end()?;
+    let search = golden::find::<Division>(file, message_type, number);
+    let answer = search.answer.map_or_else(refused, |record| format!("record {record}"));
+    Ok(format!("{answer} opened {}", search.opened))
+}
+
+pub fn step(words: &mut Words, file: &[u8]) -> Answer {
+    let at = words.named("at", u64::MAX)?;
+    words.end()?;
+    let step = golden::step::<Division>(file, usize::try_from(at).unwrap_or(usize::MAX));
+    Ok(format!("{} next {}", stepped(&step), at + step.advance() as u64))
+}
+
+fn stepped(step: &Step) -> String {
+    match step {
+        Step::Message(place) => format!("message {} {}", place.start, place.len()),
+        Step::Refused(refusal) => refused(*refusal),
+        Step::End => "end".to_string(),
+    }
+}
+
+pub fn walk(words: &mut Words, file: &[u8]) -> Answer {
+    words.end()?;
+    let (mut told, mut next) = (Vec::new(), 0);
+    loop {
+        let step = golden::step::<Division>(file, next);
+        told.push(stepped(&step));
+        if step.advance() == 0 {
+            return Ok(told.join(", "));
+        }
+        next += step.advance();
+    }
+}
+
+pub fn compare(words: &mut Words, file: &[u8]) -> Answer {
+    let record = record(words, "record")?;
+    words.the_word("list")?;
+    let mut list = numbers(words, "with")?;
+    let radio = bytes(words, MOST_BYTES, None)?;
+    let answer = match golden::compare::<Division>(file, record, &radio, &mut list) {
+        Ok(0) => "same".to_string(),
+        Ok(total) => format!("different {total}"),
+        Err(refusal) => refused(refusal),
+    };
+    let list: String = list.iter().map(|number| format!(" {number}")).collect();
+    Ok(format!("{answer} list{list}"))
+}
+
+pub fn make(words: &mut Words) -> Answer {
+    let mut lent = room(words)?;
+    words.the_word("of")?;
+    let message = bytes(words, MOST_BYTES, None)?;
+    let made = golden::make::<Division>(&message, &mut lent);
+    let answer = made.map_or_else(refused, |()| "made".to_string());
+    Ok(format!("{answer} {}", buffer(&lent)))
+}
+
+pub fn entry(words: &mut Words, file: &[u8]) -> Answer {
+    let record = record(words, "at")?;
+    words.end()?;
+    Ok(entered(file, record))
+}
+
+fn entered(file: &[u8], record: usize) -> String {
+    match golden::line::<Division>(file, record) {
+        Ok(line) => format!("{} {} {}", line.message_type, line.number, line.length),
+        Err(refusal) => refused(refusal),
+    }
+}
+
+pub fn list(words: &mut Words, file: &[u8]) -> Answer {
+    words.end()?;
+    Ok(match golden::count(file) {
+        Ok(count) => {
+            let entries = (0..count).map(|record| format!("; {record} {}", entered(file, record)));
+            format!("records {count}{}", entries.collect::<String>())
+        }
+        Err(refusal) => refused(refusal),
+    })
+}

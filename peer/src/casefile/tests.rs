@@ -1,0 +1,283 @@
+//! Files of cases run whole: the examples of document 01, each complaint, and the limits.
+
+use super::run;
+
+fn told(input: &str) -> String {
+    String::from_utf8(run(input.as_bytes())).expect("what is printed is text")
+}
+
+/// Runs the lines together; each has the line that it must print.
+fn each(cases: &[(&str, &str)]) {
+    let input: Vec<&str> = cases.iter().map(|case| case.0).collect();
+    let printed = told(&input.join("\n"));
+    let printed: Vec<&str> = printed.lines().collect();
+    for (case, printed) in cases.iter().zip(&printed) {
+        assert_eq!(*printed, case.1, "{}", case.0);
+    }
+    assert_eq!(printed.len(), cases.len());
+}
+
+const ACCEPTED: &str = "accepted type 6000 version 1 flags 0 number 1 time 0";
+
+#[test]
+fn examples_a_to_g_are_judged_as_told() {
+    each(&[
+        (
+            "read a: 0417700100000000000000010000000000 00000000",
+            &format!("read a: {ACCEPTED} unaddressed body 17 0 [] integrity none"),
+        ),
+        ("read b: 0417700100000000000000010000000000 000000", "read b: refused 1"),
+        ("read c: 0317700100000000000000010000000000 00000000", "read c: refused 2"),
+        ("read d: 0417700100000000000000010000000005 00000000", "read d: refused 4"),
+        ("read e: 0417700100000000000000010000000000 00000000 00", "read e: refused 5"),
+        ("read f: 0417700100000000000000010000000000 00000001", "read f: refused 7"),
+        (
+            "read g: 0417700100000001000000010000000000 55 00000000",
+            &format!("read g: {ACCEPTED} unaddressed body 17 1 [55] integrity none"),
+        ),
+    ]);
+}
+
+#[test]
+fn examples_h_to_j_are_judged_as_told() {
+    let head = "04177001000000000000000100000000";
+    let accepted = format!("{ACCEPTED} ttl 120 qos 0 source");
+    let (s, d) = ("53".repeat(63), "44".repeat(63));
+    each(&[
+        (
+            &format!("read h: {head} 06 0078 0000 0000 00*4"),
+            &format!("read h: {accepted} 21 0 [] destination 22 0 [] body 23 0 [] integrity none"),
+        ),
+        (&format!("read i: {head} 07 0078 0000 414100 00*4"), "read i: refused 6"),
+        (
+            &format!("read i, source: {head} 07 0078 0000 'A' 0000 00*4"),
+            &format!("read i, source: {accepted} 21 1 [41] destination 23 0 [] body 24 0 [] integrity none"),
+        ),
+        (
+            &format!("read i, destination: {head} 07 0078 0000 00 'A' 00 00*4"),
+            &format!("read i, destination: {accepted} 21 0 [] destination 22 1 [41] body 24 0 [] integrity none"),
+        ),
+        (
+            &format!("read j: {head} 84 0078 0000 53*63 00 44*63 00 00*4"),
+            &format!("read j: {accepted} 21 63 [{s}] destination 85 63 [{d}] body 149 0 [] integrity none"),
+        ),
+        (&format!("read j, V 133: {head} 85 0078 0000 53*64 00 44*63 00 00*4"), "read j, V 133: refused 4"),
+        (&format!("read j, 64: {head} 84 0078 0000 53*64 00 44*62 00 00*4"), "read j, 64: refused 6"),
+    ]);
+}
+
+#[test]
+fn examples_k_to_o_are_answered_as_told() {
+    each(&[
+        ("sequence k: from 4294967295 to 0", "sequence k: next"),
+        ("sequence l: from 0 to 2147483648", "sequence l: behind 2147483648"),
+        ("qos m: split 8", "qos m: 0 0 0 1 0"),
+        ("sum n: '123456789'", "sum n: 9 cbf43926"),
+        ("file record 041770010000000000000001 00*9", "file: 512 bytes"),
+        ("file record 041770010000000000000001 00*9", "file: 1024 bytes"),
+        ("file change 513 14", "file: 1024 bytes"),
+        ("list o: ", "list o: records 2; 0 6000 1 21; 1 refused 23 0"),
+    ]);
+}
+
+#[test]
+fn other_envelope_commands_answer_as_told() {
+    // The sum is zlib's.
+    let wrote = "04177001090000020000000200000003080004000561006200beefd7c2a66f";
+    let fields = "type 6000 version 1 flags 9 number 2 time 3 ttl 4 qos 5 source 'a' destination 'b' body beef";
+    each(&[
+        ("sum nothing:", "sum nothing: 0 00000000"),
+        (&format!("write it: {fields} integrity 0 room 33"), &format!("write it: wrote 31 [{wrote} ee*2]")),
+        (&format!("write short: {fields} integrity 0 room 30"), "write short: refused 15 [ee*30]"),
+        (&format!("write none: {fields} integrity 0 room 0"), "write none: refused 15 []"),
+        (&format!("write stray: {fields} integrity 7 room 1"), "write stray: refused 14 [ee*1]"),
+        (&format!("rewrite it: room 32 of {wrote}"), &format!("rewrite it: wrote 31 [{wrote} ee*1]")),
+        (&format!("rewrite short: room 3 of {wrote}"), "rewrite short: refused 15 [ee*3]"),
+        (&format!("rewrite cut: room 3 of {}", &wrote[..60]), "rewrite cut: unread 5 [ee*3]"),
+        (
+            &format!("read application: {}", wrote.replacen("0109", "0117", 1)),
+            "read application: accepted type 6000 version 1 flags 23 number 2 time 3 ttl 4 qos 5 \
+             source 21 1 [61] destination 23 1 [62] body 25 2 [beef] integrity application d7c2a66f",
+        ),
+        (
+            &format!("read crc: {wrote}"),
+            "read crc: accepted type 6000 version 1 flags 9 number 2 time 3 ttl 4 qos 5 \
+             source 21 1 [61] destination 23 1 [62] body 25 2 [beef] integrity crc d7c2a66f",
+        ),
+        ("qos j: join 7 15 7 7 7", "qos j: 65535"),
+        ("qos j: join 7 16 7 7 7", "qos j: refused 41"),
+        ("late a: flags 1 time 5 ttl 5 clock 11", "late a: late"),
+        ("late b: flags 1 time 5 ttl 5 clock 10", "late b: in time"),
+        ("late c: flags 1 time 5 unaddressed clock 18446744073709551615", "late c: no clock"),
+        ("sequence r: from 7 to 7", "sequence r: repeat"),
+        ("sequence a: from 7 to 9", "sequence a: ahead 2"),
+        ("sequence b: from 7 to 6", "sequence b: behind 1"),
+    ]);
+}
+
+const M: &str = "041770010000000000000001 00*9";
+
+#[test]
+fn golden_commands_answer_as_told() {
+    each(&[
+        ("check empty:", "check empty: records 0"),
+        ("find empty: type 6000 number 1", "find empty: refused 27 0 opened 0"),
+        ("walk empty:", "walk empty: end"),
+        ("list empty:", "list empty: records 0"),
+        (&format!("file record {M}"), "file: 512 bytes"),
+        ("check one:", "check one: records 1"),
+        (&format!("file record {M} 00"), "file: 1024 bytes"),
+        (&format!("file record {M}"), "file: 1536 bytes"),
+        ("check bad:", "check bad: record 1 refused 25 5"),
+        ("find first: type 6000 number 1", "find first: record 0 opened 1"),
+        ("find none: type 6000 number 2", "find none: refused 25 5 opened 2"),
+        ("step at one: at 1", "step at one: refused 25 5 next 2"),
+        ("step at two: at 2", "step at two: message 1026 21 next 3"),
+        ("step past: at 18446744073709551615", "step past: end next 18446744073709551615"),
+        ("walk it:", "walk it: message 2 21, refused 25 5, message 1026 21, end"),
+        ("entry 2: at 2", "entry 2: 6000 1 21"),
+        ("entry 3: at 3", "entry 3: refused 22 0"),
+        ("list it:", "list it: records 3; 0 6000 1 21; 1 refused 25 5; 2 6000 1 21"),
+        ("file bytes 00", "file: 1537 bytes"),
+        ("check odd:", "check odd: record 0 refused 21 0"),
+        ("find odd: type 6000 number 1", "find odd: refused 21 0 opened 0"),
+        ("step odd: at 7", "step odd: refused 21 0 next 7"),
+        ("walk odd:", "walk odd: refused 21 0"),
+        ("list odd:", "list odd: refused 21 0"),
+        ("flips odd: record 0", "flips odd: no message"),
+    ]);
+}
+
+#[test]
+fn comparisons_and_new_records_answer_as_told() {
+    let radio = "0417700100000001 00000001 00*5 55 00*4";
+    let stored = "0015041770010000000000000001 00*498";
+    each(&[
+        (&format!("file record {M}"), "file: 512 bytes"),
+        (&format!("compare same: record 0 list 9 9 with {M}"), "compare same: same list 9 9"),
+        (&format!("compare none: record 0 list with {M}"), "compare none: same list"),
+        (&format!("compare long: record 0 list 9*4 with {radio}"), "compare long: different 3 list 7 17 21 9"),
+        (&format!("compare short: record 0 list 9*2 with {radio}"), "compare short: different 3 list 7 17"),
+        (&format!("compare none there: record 1 list 9 with {radio}"), "compare none there: refused 22 0 list 9"),
+        ("compare unread: record 0 list 9 with 00*21", "compare unread: refused 31 2 list 9"),
+        (&format!("make it: room 512 of {M}"), &format!("make it: made [{stored}]")),
+        (&format!("make short: room 511 of {M}"), "make short: refused 35 0 [ee*511]"),
+        ("make none: room 512 of", "make none: refused 34 1 [ee*512]"),
+        ("make long: room 0 of 00*511", "make long: refused 33 0 []"),
+    ]);
+}
+
+#[test]
+fn each_complaint_has_its_line_and_column() {
+    let write = "write w: type 1 version 2 flags 0 number 3 time 4 unaddressed source destination body";
+    each(&[
+        ("reed a: 00", "line 1, column 1: a command expected"),
+        ("  Read a: 00", "line 2, column 3: a command expected"),
+        ("read: 00", "line 3, column 1: a command expected"),
+        ("read 00", "line 4, column 5: a name and a colon expected"),
+        (" read   : 00", "line 5, column 6: a name and a colon expected"),
+        ("check", "line 6, column 6: a name and a colon expected"),
+        ("check c:  x", "line 7, column 11: the end of the line expected"),
+        ("read a: 00 0g 00", "line 8, column 12: bytes expected"),
+        ("rewrite a: room 1025 of", "line 9, column 17: a number from 0 to 1024 expected"),
+        ("rewrite a: room 1 ", "line 10, column 19: the word of expected"),
+        ("qos q: halve 3", "line 11, column 8: the word split expected"),
+        ("qos q: join 1 2 3 256 0", "line 12, column 19: a number from 0 to 255 expected"),
+        ("qos q: join 1 2 3 4  ", "line 13, column 22: a number from 0 to 255 expected"),
+        ("late l: flags 1 time 2 addressed", "line 14, column 24: the word ttl expected"),
+        ("late l: flags 1 time 2 ttl 3 qos 4", "line 15, column 30: the word clock expected"),
+        ("file append 00", "line 16, column 6: the word new expected"),
+        ("file", "line 17, column 5: the word new expected"),
+        (&format!("{write} 00 room 1"), "line 18, column 90: bytes expected"),
+        (&format!("{write} 00"), "line 19, column 89: the word integrity expected"),
+        (&format!("{write} integrity 4294967296"), "line 20, column 97: a number from 0 to 4294967295 expected"),
+        ("step s: at 18446744073709551616", "line 21, column 12: a number from 0 to 18446744073709551615 expected"),
+        ("step s: at -1", "line 22, column 12: a number from 0 to 18446744073709551615 expected"),
+        ("find f: number 1", "line 23, column 9: the word type expected"),
+        ("edits e: record 0 0", "line 24, column 19: the end of the line expected"),
+    ]);
+}
+
+#[test]
+fn names_are_told_again_and_comments_are_not() {
+    each(&[
+        ("  sum  a  b: :", "line 1, column 14: bytes expected"),
+        ("sum \u{e9}, it's 1:", "sum \u{e9}, it's 1: 0 00000000"),
+    ]);
+    let printed = told("# a: b\n\n   \n  # c\nwalk :x:\n\twalk x:\nwalk x:\n");
+    let complaints = "line 5, column 5: a name and a colon expected\nline 6, column 1: a command expected\n";
+    assert_eq!(printed, format!("{complaints}walk x: end\n"));
+    assert_eq!(told("  sum  a  b :00"), "sum  a  b : 1 d202ef8d\n");
+    assert_eq!(told(""), "");
+    assert_eq!(told("\n#"), "");
+}
+
+#[test]
+fn a_line_has_at_most_4096_characters() {
+    let padded = |line: &str, length: usize| format!("{line}{}", " ".repeat(length - line.len()));
+    assert_eq!(told(&padded("walk a:", 4096)), "walk a: end\n");
+    assert_eq!(told(&padded("walk a:\nwalk b:", 8 + 4096)), "walk a: end\nwalk b: end\n");
+    assert_eq!(told(&padded("walk a:", 4097)), "line 1: longer than 4096 characters\n");
+    assert_eq!(told(&padded("\n#", 1 + 4097)), "line 2: longer than 4096 characters\n");
+    assert_eq!(told(&padded("#", 4096)), "");
+    assert_eq!(told(&" ".repeat(4097)), "line 1: longer than 4096 characters\n");
+    let early = padded("check a: x", 4097) + "\nwalk b:";
+    assert_eq!(told(&early), "line 1: longer than 4096 characters\nwalk b: end\n");
+    assert_eq!(told(&padded("qos q: split", 4096)), "line 1, column 4097: a number from 0 to 65535 expected\n");
+}
+
+#[test]
+fn bytes_lists_and_the_file_have_their_limits() {
+    let write = |source, destination, body| {
+        let ends = format!("unaddressed source {source} destination {destination}");
+        format!("write w: type 1 version 2 flags 0 number 3 time 4 {ends} body {body} integrity 0 room 0")
+    };
+    each(&[
+        ("sum most: 00*300000", "sum most: 300000 f6b2e2fb"),
+        ("sum more: 00*299999 01 02", "line 2, column 24: at most 300000 bytes expected"),
+        ("read more: 00*300001", "line 3, column 12: at most 300000 bytes expected"),
+        (&write("41*600", "41*600", "41*600"), "write w: refused 12 []"),
+        (&write("41*601", "", ""), "line 5, column 70: at most 600 bytes expected"),
+        (&write("", "41*601", ""), "line 6, column 83: at most 600 bytes expected"),
+        (&write("", "", "41*601"), "line 7, column 89: at most 600 bytes expected"),
+        ("compare c: record 0 list 1 2*600 with", "line 8, column 28: at most 600 numbers expected"),
+        ("compare c: record 0 list 1 4294967296 with", "line 9, column 28: a number from 0 to 4294967295 expected"),
+        ("file zeros 66048", "file: 66048 bytes"),
+        ("file zeros 513", "line 11, column 12: a number from 0 to 512 expected"),
+        ("file record 00*511", "line 12, column 13: at most 510 bytes expected"),
+        ("file record 00*510", "file: 66560 bytes"),
+        ("file bytes 00", "line 14, column 12: at most 0 bytes expected"),
+        ("file record", "line 15: no room for a record in the file"),
+        ("file record x", "line 16, column 13: bytes expected"),
+        ("file change 66561", "line 17, column 13: a number from 0 to 66560 expected"),
+        ("file change 66559 00 00", "line 18, column 22: at most 1 bytes expected"),
+        ("check too long:", "check too long: record 0 refused 21 0"),
+        ("file new", "file: 0 bytes"),
+    ]);
+}
+
+#[test]
+fn a_full_list_is_told_whole() {
+    let printed = told(&format!("file record {M}\ncompare c: record 0 list 4*600 with {M}\n"));
+    assert_eq!(printed, format!("file: 512 bytes\ncompare c: same list{}\n", " 4".repeat(600)));
+}
+
+#[test]
+fn of_an_input_too_long_the_first_lines_are_run() {
+    let cut = "the input is longer than 262144 bytes, and nothing is run from here on\n";
+    // 64 lines of 4096 bytes with their line feeds are 256 KiB.
+    let line = format!("#{}\n", " ".repeat(4094));
+    let whole = format!("walk a:{}\n", " ".repeat(4088)) + &line.repeat(63);
+    assert_eq!(whole.len(), 262_144);
+    assert_eq!(told(&whole), "walk a: end\n");
+    assert_eq!(told(&(whole.clone() + "\n")), format!("walk a: end\nline 65: {cut}"));
+    assert_eq!(told(&(whole.clone() + "walk b:")), format!("walk a: end\nline 65: {cut}"));
+    // The last line feed is the byte behind the limit, or the line has none.
+    let late = whole[..262_143].to_string() + " \nwalk b:\n";
+    assert_eq!(told(&late), format!("walk a: end\nline 64: {cut}"));
+    let last = line.repeat(63) + &format!("walk z:{}", " ".repeat(4089));
+    assert_eq!((last.len(), told(&last)), (262_144, "walk z: end\n".to_string()));
+    // A line that is cut is not told to be long too.
+    assert_eq!(told(&"x".repeat(262_145)), format!("line 1: {cut}"));
+    assert_eq!(told(&"x".repeat(262_144)), "line 1: longer than 4096 characters\n");
+}

@@ -1,0 +1,206 @@
+//! Lines about sums and envelopes. Each name says what the line is about; where it can, also what is to come of it.
+
+use super::damage::{damaged, damaged_twice, DAMAGES};
+use super::sketch::{kind_name, letters, Sketch, KINDS};
+use super::spelled::spelled;
+use crate::envelope::{Kind, Service};
+use crate::golden::{LONGEST_MESSAGE, RECORD};
+use crate::random::Random;
+
+pub fn sums(random: &mut Random) -> Vec<String> {
+    let (run, pattern, size) = (random.up_to(300), random.between(1, 5_000), random.between(1, 60));
+    let word = letters(random, 9);
+    let bytes = random.bytes(size);
+    vec![
+        "sum no bytes:".to_string(),
+        format!("sum {run} times one byte: {:02x}*{run}", random.byte()),
+        format!("sum a pattern of {pattern}: pattern*{pattern}"),
+        format!("sum nine letters: '{}'", String::from_utf8_lossy(&word)),
+        format!("sum {size} bytes at random: {}", spelled(random, &bytes)),
+    ]
+}
+
+/// Lines written in an unusual way that is right all the same.
+pub fn unusual(random: &mut Random) -> Vec<String> {
+    let gap = " ".repeat(random.between(2, 5));
+    let number = random.next() as u16;
+    vec![
+        format!("qos zeros before a number: split {}{number}", "0".repeat(random.between(1, 30))),
+        format!("{gap}sum{gap}spaces all over{gap}:{gap}{:02x}{gap}'a'{gap}", random.byte()),
+        format!("sum words of no bytes: 41*0 '' pattern*0 {:02X}*1 00*000", random.byte()),
+    ]
+}
+
+pub fn good_reads(random: &mut Random) -> Vec<String> {
+    let mut lines = Vec::new();
+    for kind in KINDS {
+        for (addressed, told) in [(false, "unaddressed"), (true, "addressed")] {
+            let message = Sketch::draw(random, kind, addressed).message();
+            lines.push(format!("read good, {}, {told}: {}", kind_name(kind), spelled(random, &message)));
+        }
+    }
+    let mut longest = Sketch::any(random);
+    let size = LONGEST_MESSAGE - (longest.length() - longest.body.len());
+    longest.body = random.bytes(size);
+    lines.push(format!("read good, 510 bytes: {}", spelled(random, &longest.message())));
+    lines
+}
+
+pub fn bad_reads(random: &mut Random) -> Vec<String> {
+    let mut lines = Vec::new();
+    for damage in DAMAGES {
+        let message = damaged(random, damage);
+        lines.push(format!("read {}: {}", damage.name(), spelled(random, &message)));
+    }
+    for _ in 0..2 {
+        let first = random.up_to(DAMAGES.len() - 2);
+        let second = DAMAGES[random.between(first + 1, DAMAGES.len() - 1)];
+        let message = damaged_twice(random, DAMAGES[first], second);
+        lines.push(format!("read {} and {}: {}", DAMAGES[first].name(), second.name(), spelled(random, &message)));
+    }
+    lines
+}
+
+/// A `write` line of this sketch, which need not be a good one.
+pub fn write_line(random: &mut Random, name: &str, sketch: &Sketch, room: usize) -> String {
+    let Sketch { message_type, message_version, flags, number, time, integrity, .. } = sketch;
+    let addressing = match sketch.service {
+        None => "unaddressed".to_string(),
+        Some(Service { ttl, qos }) => format!("ttl {ttl} qos {qos}"),
+    };
+    let words = [
+        format!("write {name}: type {message_type} version {message_version} flags {flags}"),
+        format!("number {number} time {time} {addressing} source"),
+        spelled(random, &sketch.source),
+        "destination".to_string(),
+        spelled(random, &sketch.destination),
+        "body".to_string(),
+        spelled(random, &sketch.body),
+        format!("integrity {integrity} room {room}"),
+    ];
+    words.iter().filter(|words| !words.is_empty()).map(String::as_str).collect::<Vec<_>>().join(" ")
+}
+
+pub fn good_writes(random: &mut Random) -> Vec<String> {
+    let mut lines = Vec::new();
+    for kind in KINDS {
+        let addressed = random.once_in(2);
+        let sketch = Sketch::draw(random, kind, addressed);
+        let name = format!("just enough room, {}", kind_name(kind));
+        lines.push(write_line(random, &name, &sketch, sketch.length()));
+    }
+    let sketch = Sketch::any(random);
+    let room = sketch.length() + random.between(1, 60);
+    lines.push(write_line(random, "more room than it takes", &sketch, room));
+    let mut sketch = Sketch::draw(random, Kind::Crc, true);
+    (sketch.source, sketch.destination) = (letters(random, 63), letters(random, 63));
+    lines.push(write_line(random, "two addresses of 63 letters", &sketch, sketch.length()));
+    lines
+}
+
+pub fn bad_writes(random: &mut Random) -> Vec<String> {
+    let spoilers: [(&str, fn(&mut Random, &mut Sketch)); 6] = [
+        ("unassigned flags", |random, sketch| sketch.flags |= random.pick(&[0x18, 0x20, 0x40, 0x80])),
+        ("an address over 63 bytes", |random, sketch| sketch.source = vec![b'L'; random.between(64, 70)]),
+        ("an address with a zero", |random, sketch| {
+            let place = random.up_to(sketch.destination.len());
+            sketch.destination.insert(place, 0);
+        }),
+        ("an address where addressing is absent", |random, sketch| {
+            (sketch.service, sketch.source) = (None, letters(random, 3));
+        }),
+        ("a stray integrity number", |random, sketch| sketch.integrity = random.between(1, 99) as u32),
+        ("nothing wrong", |_, _| {}),
+    ];
+    let mut lines = Vec::new();
+    for (name, spoil) in spoilers {
+        let kind = random.pick(&KINDS[..2]);
+        let mut sketch = Sketch::draw(random, kind, true);
+        spoil(random, &mut sketch);
+        let room = sketch.length() - random.between(1, sketch.length());
+        // Too short a buffer is looked for last, so it may come with any of the others.
+        if name == "nothing wrong" || random.once_in(4) {
+            lines.push(write_line(random, &format!("{name}, too little room"), &sketch, room));
+        } else {
+            lines.push(write_line(random, name, &sketch, 600));
+        }
+    }
+    let sketch = Sketch::any(random);
+    lines.push(write_line(random, "one byte too little room", &sketch, sketch.length() - 1));
+    lines
+}
+
+pub fn rewrites(random: &mut Random) -> Vec<String> {
+    let mut line = |name: &str, more: usize, less: usize| {
+        let message = Sketch::any(random).message();
+        format!("rewrite {name}: room {} of {}", message.len() + more - less, spelled(random, &message))
+    };
+    let mut lines =
+        vec![line("just enough room", 0, 0), line("room to spare", 17, 0), line("one byte too little room", 0, 1)];
+    let damage = random.pick(&DAMAGES);
+    let message = damaged(random, damage);
+    lines.push(format!("rewrite {}: room {} of {}", damage.name(), random.up_to(80), spelled(random, &message)));
+    lines
+}
+
+pub fn new_records(random: &mut Random) -> Vec<String> {
+    let mut line = |name: &str, room: usize| {
+        let message = Sketch::any(random).message();
+        format!("make {name}: room {room} of {}", spelled(random, &message))
+    };
+    let mut lines = vec![
+        line("a record", RECORD),
+        line("buffer one byte short", RECORD - 1),
+        line("buffer one byte long", RECORD + 1),
+    ];
+    let damage = random.pick(&DAMAGES);
+    let message = damaged(random, damage);
+    lines.push(format!("make {}: room {RECORD} of {}", damage.name(), spelled(random, &message)));
+    let size = random.between(LONGEST_MESSAGE + 1, 600);
+    lines.push(format!("make a message over 510 bytes: room {RECORD} of 04*{size}"));
+    lines
+}
+
+pub fn qos(random: &mut Random) -> Vec<String> {
+    let mut part = |largest: usize| random.up_to(largest);
+    let fitting = format!("join {} {} {} {} {}", part(7), part(15), part(7), part(7), part(7));
+    let place = random.up_to(4);
+    let widths = [7, 15, 7, 7, 7];
+    let parts =
+        (0..5).map(|at| if at == place { random.between(widths[at] + 1, 255) } else { random.up_to(widths[at]) });
+    let unfitting: Vec<String> = parts.map(|part| part.to_string()).collect();
+    vec![
+        format!("qos any: split {}", random.next() as u16),
+        format!("qos one bit: split {}", 1 << random.up_to(15)),
+        format!("qos numbers that fit: {fitting}"),
+        format!("qos number {place} does not fit: join {}", unfitting.join(" ")),
+    ]
+}
+
+pub fn lateness(random: &mut Random) -> Vec<String> {
+    let (time, ttl) = (random.number().max(1), random.number() as u16);
+    let last = u64::from(time) + u64::from(ttl);
+    let (clock, by) = (random.number(), random.between(1, 1_000) as u64);
+    vec![
+        format!("late at its last second: flags 1 time {time} ttl {ttl} clock {last}"),
+        format!("late one second after: flags {} time {time} ttl {ttl} clock {}", random.byte() | 1, last + 1),
+        format!("late {by} seconds before: flags 1 time {time} ttl {ttl} clock {}", last.saturating_sub(by)),
+        format!("late relative time: flags {} time {time} ttl {ttl} clock {clock}", random.byte() & !1),
+        format!("late no time: flags 1 time 0 ttl {ttl} clock {clock}"),
+        format!("late no variable header: flags 1 time {time} unaddressed clock {}", random.next()),
+    ]
+}
+
+pub fn sequences(random: &mut Random) -> Vec<String> {
+    let old = random.number();
+    let ahead = random.between(2, i32::MAX as usize) as u32;
+    let steps = [
+        ("a repeat", 0),
+        ("the next", 1),
+        ("ahead", ahead),
+        ("behind", ahead.wrapping_neg()),
+        ("the farthest ahead", (1 << 31) - 1),
+        ("half way round", 1 << 31),
+    ];
+    steps.map(|(name, by)| format!("sequence {name}: from {old} to {}", old.wrapping_add(by))).to_vec()
+}

@@ -1,0 +1,207 @@
+//! Scenes about the golden file that is worked on: lines that make it up, then lines that ask about it.
+
+use super::damage::{damaged, DAMAGES};
+use super::sketch::{seal, Sketch};
+use super::spelled::spelled;
+use crate::envelope::{Kind, COMMON, FIELD};
+use crate::golden::{LONGEST_MESSAGE, PREFIX, RECORD};
+use crate::random::Random;
+
+type Scene = Vec<String>;
+
+fn record_line(random: &mut Random, message: &[u8]) -> String {
+    format!("file record {}", spelled(random, message))
+}
+
+/// What a `find` of this sketch's message is asked with.
+fn sought(sketch: &Sketch) -> String {
+    format!("type {} number {}", sketch.message_type, sketch.number)
+}
+
+/// Three good records, the last of them short, and everything asked about them.
+pub fn good_file(random: &mut Random) -> Scene {
+    let mut sketches = [Sketch::draw(random, Kind::Crc, true), Sketch::any(random), Sketch::short(random)];
+    let number = random.number();
+    for (sketch, place) in sketches.iter_mut().zip(0..) {
+        sketch.number = number.wrapping_add(place);
+    }
+    let mut scene = vec!["file new".to_string()];
+    scene.extend(sketches.iter().map(|sketch| record_line(random, &sketch.message())));
+    let (at, past) = (random.up_to(2), random.pick(&[3, 4, 128, u64::MAX]));
+    scene.extend([
+        "check three good records:".to_string(),
+        format!("find record {at} of three: {}", sought(&sketches[at])),
+        format!("find what is not there: type {} number {}", sketches[at].message_type, number.wrapping_sub(1)),
+        format!("step at record {at} of three: at {at}"),
+        format!("step past the last: at {past}"),
+        "walk three good records:".to_string(),
+        format!("entry of record {at}: at {at}"),
+        format!("entry of no record: at {past}"),
+        "list three good records:".to_string(),
+        "edits of a message with a CRC: record 0".to_string(),
+        format!("flips of message {at}: record {at}"),
+        "pairs of a short message: record 2".to_string(),
+    ]);
+    scene.extend(comparisons(random, at, &sketches[at].message()));
+    scene
+}
+
+/// Comparisons with the record's own message and with others, with lists longer and shorter than the differences.
+fn comparisons(random: &mut Random, record: usize, golden: &[u8]) -> Scene {
+    let (changed, places) = changed(random, golden);
+    let other = Sketch::any(random).message();
+    let damage = random.pick(&DAMAGES);
+    let bad = damaged(random, damage);
+    let (mark, more, fewer) = (random.number(), places + random.between(1, 40), random.between(1, places - 1));
+    let shown = spelled(random, &changed);
+    vec![
+        format!("compare with itself: record {record} list {mark}*3 with {}", spelled(random, golden)),
+        format!("compare a long list: record {record} list {mark}*{more} with {shown}"),
+        format!("compare a short list: record {record} list {mark}*{fewer} with {shown}"),
+        format!("compare no list: record {record} list with {shown}"),
+        format!("compare another message: record {record} list 1 2 3*30 {mark} with {}", spelled(random, &other)),
+        format!("compare {}: record {record} list {mark} 7 with {}", damage.name(), spelled(random, &bad)),
+        format!("compare no record: record 3 list {mark} with {shown}"),
+    ]
+}
+
+/// The message with some of its type, version, number and time changed, and in how many places at least.
+fn changed(random: &mut Random, golden: &[u8]) -> (Vec<u8>, usize) {
+    let mut message = golden.to_vec();
+    let places = random.between(2, 5);
+    for place in [1, 3, 9, 10, 15].into_iter().take(places) {
+        message[place] ^= random.between(1, 255) as u8;
+    }
+    seal(&mut message);
+    (message, places)
+}
+
+/// A way for the second of three records to be bad: its name, and the lines that make it up.
+fn bad_record(random: &mut Random, refusal: u8) -> (String, Scene) {
+    let mut sketch = Sketch::any(random);
+    // Some room is left in the record behind the message.
+    sketch.body.truncate(40);
+    let mut scene = vec![record_line(random, &sketch.message())];
+    match refusal {
+        23 => {
+            let stored: u16 = random.pick(&[0, 1, 20, 511, 512, 0x1500, 0xFFFF]);
+            scene.push(format!("file change {RECORD} {stored:04x}"));
+            (format!("stored length {stored}"), scene)
+        }
+        24 => {
+            let (after, last) = (RECORD + PREFIX + sketch.length(), 2 * RECORD - 1);
+            let place = random.between(after, last);
+            let place = random.pick(&[after, place, last]);
+            scene.push(format!("file change {place} {:02x}", random.between(1, 255)));
+            ("a byte after the message".to_string(), scene)
+        }
+        _ => {
+            let damage = random.pick(&DAMAGES[1..]);
+            let mut bad = damaged(random, damage);
+            while bad.len() > LONGEST_MESSAGE {
+                bad = damaged(random, damage);
+            }
+            (damage.name().to_string(), vec![record_line(random, &bad)])
+        }
+    }
+}
+
+/// A good record, one that is refused with this number, and a good one.
+pub fn bad_file(random: &mut Random, refusal: u8) -> Scene {
+    let mut first = Sketch::any(random);
+    first.number = first.number.max(1);
+    let mut last = Sketch::any(random);
+    last.number = first.number - 1;
+    let (name, bad) = bad_record(random, refusal);
+    let mut scene = vec!["file new".to_string(), record_line(random, &first.message())];
+    scene.extend(bad);
+    scene.push(record_line(random, &last.message()));
+    scene.extend([
+        format!("check {name}:"),
+        format!("find before {name}: {}", sought(&first)),
+        format!("find behind {name}: {}", sought(&last)),
+        format!("step at {name}: at 1"),
+        format!("walk past {name}:"),
+        format!("entry of {name}: at 1"),
+        format!("list {name}:"),
+        format!("compare with {name}: record 1 list 5 6 with {}", spelled(random, &first.message())),
+        format!("{} of {name}: record 1", random.pick(&["edits", "flips", "pairs"])),
+        format!("flips beside {name}: record {}", random.pick(&[0, 2])),
+    ]);
+    scene
+}
+
+/// A file whose length is no multiple of 512.
+pub fn odd_file(random: &mut Random) -> Scene {
+    let sketch = Sketch::any(random);
+    let (size, at) = (random.between(1, RECORD - 1), random.up_to(5));
+    let few = random.up_to(size.min(8));
+    let bytes = random.bytes(few);
+    vec![
+        "file new".to_string(),
+        record_line(random, &sketch.message()),
+        format!("file bytes {}", spelled(random, &bytes)),
+        format!("file zeros {}", size - bytes.len()),
+        "check an odd length:".to_string(),
+        format!("find in an odd length: {}", sought(&sketch)),
+        format!("step at {at} in an odd length: at {at}"),
+        "walk an odd length:".to_string(),
+        format!("entry {at} in an odd length: at {at}"),
+        "list an odd length:".to_string(),
+        format!("compare in an odd length: record 0 list 8*2 with {}", spelled(random, &sketch.message())),
+        format!("{} in an odd length: record 0", random.pick(&["edits", "flips", "pairs"])),
+    ]
+}
+
+/// A file of 129 records, and then one with no room for another.
+pub fn long_file(random: &mut Random) -> Scene {
+    let message = Sketch::any(random).message();
+    let (more, at) = (random.between(1, RECORD), random.up_to(200));
+    vec![
+        "file new".to_string(),
+        "file zeros 65536".to_string(),
+        "check 128 records of zeros:".to_string(),
+        format!("step among 128 records: at {at}"),
+        "file zeros 512".to_string(),
+        "check 129 records:".to_string(),
+        "walk 129 records:".to_string(),
+        format!("file zeros {more}"),
+        record_line(random, &message),
+    ]
+}
+
+pub fn empty_file(random: &mut Random) -> Scene {
+    let sketch = Sketch::any(random);
+    vec![
+        "file new".to_string(),
+        "check an empty file:".to_string(),
+        format!("find in an empty file: {}", sought(&sketch)),
+        format!("step in an empty file: at {}", random.up_to(2)),
+        "walk an empty file:".to_string(),
+        "entry in an empty file: at 0".to_string(),
+        "list an empty file:".to_string(),
+        format!("compare in an empty file: record 0 list 4 with {}", spelled(random, &sketch.message())),
+        "edits in an empty file: record 0".to_string(),
+    ]
+}
+
+/// A record that is damaged in its place and mended again.
+pub fn mended_file(random: &mut Random) -> Scene {
+    let message = Sketch::draw(random, Kind::Crc, true).message();
+    let place = random.between(COMMON, message.len() - FIELD - 1);
+    let bad = message[place] ^ random.between(1, 255) as u8;
+    let change = |byte: u8| format!("file change {} {byte:02x}", PREFIX + place);
+    vec![
+        "file new".to_string(),
+        record_line(random, &message),
+        change(bad),
+        format!("check with byte {place} damaged:"),
+        change(message[place]),
+        format!("check with byte {place} mended:"),
+    ]
+}
+
+/// The scene of a record of each refusal.
+pub fn bad_files(random: &mut Random) -> Vec<Scene> {
+    [23, 24, 25].map(|refusal| bad_file(random, refusal)).to_vec()
+}

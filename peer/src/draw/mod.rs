@@ -1,0 +1,187 @@
+//! A file of cases drawn at random, for both programs to run.
+//! It goes in rounds: each holds every kind of line once, in an order and with contents of its own.
+
+mod damage;
+mod envelope_lines;
+mod golden_scenes;
+mod not_understood;
+mod sketch;
+mod spelled;
+
+use crate::random::Random;
+
+const SEED: u64 = 9354;
+const LINES: usize = 200;
+
+#[derive(Debug, PartialEq, Eq)]
+pub struct Options {
+    pub seed: u64,
+    pub lines: usize,
+}
+
+/// `[--seed N] [--lines N]`; anything else is not understood.
+pub fn options(words: &[String]) -> Option<Options> {
+    let mut options = Options { seed: SEED, lines: LINES };
+    for pair in words.chunks(2) {
+        let [name, number] = pair else { return None };
+        match name.as_str() {
+            "--seed" => options.seed = number.parse().ok()?,
+            "--lines" => options.lines = number.parse().ok()?,
+            _ => return None,
+        }
+    }
+    Some(options)
+}
+
+/// The file of cases: so many lines, the same for the same seed.
+pub fn cases(options: &Options) -> String {
+    let mut random = Random::new(options.seed);
+    let mut lines = Vec::new();
+    while lines.len() < options.lines {
+        lines.extend(round(&mut random));
+    }
+    lines.truncate(options.lines);
+    lines.iter().map(|line| format!("{line}\n")).collect()
+}
+
+/// Lines that stand on their own, each of which may come anywhere.
+const LINES_DRAWN: [fn(&mut Random) -> Vec<String>; 18] = [
+    envelope_lines::sums,
+    envelope_lines::unusual,
+    envelope_lines::good_reads,
+    envelope_lines::bad_reads,
+    envelope_lines::good_writes,
+    envelope_lines::bad_writes,
+    envelope_lines::rewrites,
+    envelope_lines::new_records,
+    envelope_lines::qos,
+    envelope_lines::lateness,
+    envelope_lines::sequences,
+    not_understood::comments,
+    not_understood::commands_and_names,
+    not_understood::words,
+    not_understood::numbers,
+    not_understood::bytes,
+    not_understood::left_over,
+    not_understood::spoiled_writes,
+];
+
+/// Lines about one golden file, which stay together.
+const SCENES_DRAWN: [fn(&mut Random) -> Vec<String>; 5] = [
+    golden_scenes::good_file,
+    golden_scenes::odd_file,
+    golden_scenes::long_file,
+    golden_scenes::empty_file,
+    golden_scenes::mended_file,
+];
+
+fn round(random: &mut Random) -> Vec<String> {
+    let mut scenes: Vec<Vec<String>> = Vec::new();
+    for draw in LINES_DRAWN {
+        scenes.extend(draw(random).into_iter().map(|line| vec![line]));
+    }
+    for draw in SCENES_DRAWN {
+        scenes.push(draw(random));
+    }
+    scenes.extend(golden_scenes::bad_files(random));
+    for last in (1..scenes.len()).rev() {
+        scenes.swap(last, random.up_to(last));
+    }
+    scenes.concat()
+}
+
+#[cfg(test)]
+mod tests {
+    use super::*;
+    use crate::casefile::{run, LONGEST_LINE};
+
+    fn drawn(seed: u64, lines: usize) -> String {
+        cases(&Options { seed, lines })
+    }
+
+    fn printed(seed: u64, lines: usize) -> String {
+        String::from_utf8(run(drawn(seed, lines).as_bytes())).expect("what is printed is text")
+    }
+
+    /// What a line that begins so must hold in some answer of every drawn file.
+    const MET: [(&str, &str); 26] = [
+        ("sum", "no bytes: 0 00000000|spaces all over"),
+        ("read", "integrity none|integrity crc|integrity application| unaddressed | ttl "),
+        ("read", ": refused 1|: refused 2|: refused 3|: refused 4|: refused 5|: refused 6|: refused 7"),
+        ("write", ": wrote |: refused 11 [|: refused 12 [|: refused 14 [|: refused 15 ["),
+        ("rewrite", ": wrote |: refused 15 [|: unread "),
+        ("qos", " does not fit: refused 41|one bit: |numbers that fit: "),
+        ("late", ": late|: in time|: no clock"),
+        ("sequence", " repeat| next| ahead | behind 2147483648"),
+        ("file:", " 0 bytes| 512 bytes| 1024 bytes| 65536 bytes| 66048 bytes"),
+        ("check", ": records 0|: records 3|record 0 refused 21 0|record 1 refused 23 0"),
+        ("check", "record 1 refused 24 0|record 1 refused 25 |damaged: record 0 refused 25 |mended: records 1"),
+        ("find", "record 0 opened 1|refused 27 0 opened 3|refused 27 0 opened 0|refused 21 0 opened 0"),
+        ("find", "refused 23 0 opened 2|refused 24 0 opened 2|refused 25 "),
+        ("step", ": message |: end next |refused 21 0 next |refused 23 0 next 2|refused 24 0 next 2"),
+        ("walk", ", refused 23 0, message 1026 |, end|: refused 21 0|: end"),
+        ("compare", ": same list |: different |refused 21 0 list|refused 22 0 list|refused 23 0 list"),
+        ("compare", "refused 24 0 list|refused 25 |refused 31 "),
+        ("make", ": made [|refused 33 0 [|refused 34 |refused 35 0 [ee*511]|refused 35 0 [ee*513]"),
+        ("entry", "refused 21 0|refused 22 0|refused 23 0|refused 24 0|refused 25 |of record "),
+        ("list", ": records 0|: records 3; 0 |; 1 refused 23 0; 2 |: refused 21 0"),
+        ("edits", ": edited |: no message"),
+        ("flips", ": flipped "),
+        ("pairs", ": flipped "),
+        ("line", ": a command expected|: a name and a colon expected|: bytes expected|: at most 600 numbers expected"),
+        ("line", ": the word new expected|: the word split expected|: the word ttl expected|: a number from 0 to 255 "),
+        ("line", ": at most 300000 bytes expected|: the end of the line expected|: no room for a record in the file"),
+    ];
+
+    #[test]
+    fn every_drawn_file_meets_every_answer() {
+        for seed in 0..20 {
+            let printed = printed(seed, LINES);
+            for (command, texts) in MET {
+                for text in texts.split('|') {
+                    let met = printed.lines().any(|line| line.starts_with(command) && line.contains(text));
+                    assert!(met, "seed {seed}: {command} {text}");
+                }
+            }
+        }
+    }
+
+    /// Whatever is drawn to be understood is: 34 lines of a round are not, and one record has no room.
+    #[test]
+    fn only_the_lines_meant_so_are_not_understood() {
+        let length = round(&mut Random::new(0)).len();
+        assert!(length <= LINES, "{length} lines in a round");
+        for seed in 0..20 {
+            let printed = printed(seed, length);
+            let told: Vec<&str> = printed.lines().filter(|line| line.starts_with("line ")).collect();
+            assert_eq!(told.len(), 35, "seed {seed}: {told:#?}");
+            assert_eq!(printed.lines().count(), length - 2, "two comments print nothing");
+        }
+    }
+
+    #[test]
+    fn a_drawn_file_is_as_long_as_asked_and_its_lines_are_not_too_long() {
+        for lines in [0, 1, 199, 200, 1_000] {
+            let drawn = drawn(7, lines);
+            assert_eq!(drawn.lines().count(), lines);
+            assert!(drawn.lines().all(|line| line.len() <= LONGEST_LINE));
+        }
+    }
+
+    #[test]
+    fn the_seed_alone_decides() {
+        assert_eq!(drawn(1, 300), drawn(1, 300));
+        assert_ne!(drawn(1, 300), drawn(2, 300));
+        assert!(drawn(1, 300).starts_with(&drawn(1, 100)));
+    }
+
+    #[test]
+    fn options_are_read_or_not_understood() {
+        let read = |words: &str| options(&words.split_whitespace().map(String::from).collect::<Vec<_>>());
+        assert_eq!(read(""), Some(Options { seed: 9354, lines: 200 }));
+        assert_eq!(read("--lines 7 --seed 3"), Some(Options { seed: 3, lines: 7 }));
+        for words in ["--seed", "--seed x", "--lines -1", "--count 3", "7"] {
+            assert_eq!(read(words), None, "{words}");
+        }
+    }
+}

@@ -1,0 +1,95 @@
+//! Lines that are not understood, for each complaint that a short line can be told.
+
+use super::envelope_lines::write_line;
+use super::sketch::Sketch;
+use crate::random::Random;
+
+/// Comments, which print nothing and are counted all the same.
+pub fn comments(random: &mut Random) -> Vec<String> {
+    vec![format!("{}# a comment: it prints nothing", " ".repeat(random.up_to(3))), " ".repeat(random.up_to(5))]
+}
+
+pub fn commands_and_names(random: &mut Random) -> Vec<String> {
+    let spaces = " ".repeat(random.up_to(3));
+    let command = random.pick(&["sum", "read", "walk", "check", "list"]);
+    vec![
+        format!("{spaces}{} no such command: 00", random.pick(&["reed", "Sum", "checks", "wal", "files", "0"])),
+        format!("{spaces}{command} a name without its colon"),
+        format!("{spaces}{command}{spaces} : spaces for a name"),
+    ]
+}
+
+pub fn words(random: &mut Random) -> Vec<String> {
+    let spaces = " ".repeat(random.up_to(3));
+    let (number, other) = (random.number(), random.pick(&["x", "Type", "now", "0", "''"]));
+    vec![
+        format!("find the number before the type: number {number} type 1"),
+        format!("late neither unaddressed nor ttl: flags 1 time {number} {other} clock 3"),
+        format!("qos neither split nor join: {other} {}", random.byte()),
+        format!("file {other} 00"),
+        format!("file{spaces}"),
+        format!("rewrite nothing behind the room: room {}{spaces}", random.up_to(99)),
+        format!("compare no message: record 0 list {number} 2*{}{spaces}", random.up_to(20)),
+        format!("sequence no second number: from {number} {other} {number}"),
+    ]
+}
+
+pub fn numbers(random: &mut Random) -> Vec<String> {
+    let word = random.pick(&["-1", "+1", "0x10", "1.0", "one", "1,000", "''", "18446744073709551616"]);
+    let over = random.up_to(9);
+    vec![
+        format!("step not a number that fits: at {word}"),
+        format!("qos a QoS too large: split 6553{}", random.between(6, 9)),
+        format!("qos a part too large: join 1 2 3 {} 5", 256 + over),
+        format!("make a room too large: room {} of 00", 1_025 + over),
+        format!("sequence a number too large: from {} to 429496729{}", random.number(), random.between(6, 9)),
+        format!("entry no number: at{}", " ".repeat(random.up_to(3))),
+        format!("file zeros {}", 66_561 + over),
+        format!("file change {} 00", 66_561 + over),
+        format!(
+            "compare a bad list: record 0 list 1 {} with 00",
+            random.pick(&["4294967296", "5*", "*5", "x", "5*5*5"])
+        ),
+    ]
+}
+
+pub fn bytes(random: &mut Random) -> Vec<String> {
+    let word = random.pick(&["041", "0g", "'abc", "abc'", "'", "0417*3", "41*", "41*x", "pattern", "pattern*", "0x41"]);
+    let over = random.between(1, 9);
+    let fields = "type 1 version 1 flags 0 number 1 time 1 unaddressed";
+    let long = format!("source 41*{} destination body integrity 0 room 0", 600 + over);
+    vec![
+        format!("sum not bytes: 00 {word} 00"),
+        format!("file record {word}"),
+        format!("sum over 300,000 bytes: 00*300000 '' 41*{over} 00"),
+        format!("write an address over 600 bytes: {fields} {long}"),
+        format!("file bytes 00*{}", 66_560 + over),
+        format!("file record 04 00*{}", 509 + over),
+        format!("file change 0 00*{}", 66_560 + over),
+        format!("compare over 600 numbers: record 0 list 1*600 2*0 3*{over} with 00"),
+    ]
+}
+
+pub fn left_over(random: &mut Random) -> Vec<String> {
+    let command = random.pick(&["check", "walk", "list"]);
+    let word = random.pick(&["now", "0", "#", ":"]);
+    vec![
+        format!("{command} a word left over:  {word}"),
+        format!("qos a sixth number: join 1 2 3 4 5 {}", random.byte()),
+        format!("file new {word}"),
+        format!("flips two records: record 0 {word}"),
+    ]
+}
+
+/// A long line that is right but for one word: another stands there, or the line ends with it.
+pub fn spoiled_writes(random: &mut Random) -> Vec<String> {
+    let sketch = Sketch::any(random);
+    let line = write_line(random, "one word spoiled", &sketch, 100);
+    let colon = line.find(": ").map_or(0, |colon| colon + 2);
+    let (name, arguments) = line.split_at(colon);
+    let words: Vec<&str> = arguments.split(' ').collect();
+    let place = random.up_to(words.len() - 1);
+    let spoiled = [&words[..place], &["x"], &words[place + 1..]].concat().join(" ");
+    let cut = random.up_to(words.len() - 1);
+    vec![format!("{name}{spoiled}"), format!("write cut short: {}", words[..cut].join(" "))]
+}
