@@ -10,12 +10,16 @@ use Rattle.sum.specs.Crc.{crc32}
 use Rattle.sum.specs.Promise.{Sums}
 use Rattle.sum.specs.Vectors.{digits}
 use Rattle.sum.proofs.Computed.{vectors, crc32-computes}
-use Rattle.envelope.specs.Fields.{absent}
+use Rattle.envelope.specs.Addresses.{badAddresses}
+use Rattle.envelope.specs.Fields.{absent, refusal}
 use Rattle.envelope.specs.Flags.{badFlags}
+use Rattle.envelope.specs.Heading.{announced, badVariableSize, heading}
+use Rattle.envelope.specs.IntegrityField.{badIntegrity}
 use Rattle.envelope.specs.Lateness.{latenessOf, JudgesLateness}
 use Rattle.envelope.specs.Message.{Given, beforeField, fieldNumber, message}
-use Rattle.envelope.specs.Numbers.{TwoBytes, ThreeBytes, FourBytes}
+use Rattle.envelope.specs.Numbers.{twoAt, threeAt, fourAt, TwoBytes, ThreeBytes, FourBytes}
 use Rattle.envelope.specs.Qos.{QosFields, splitting, joining, Splits, Joins}
+use Rattle.envelope.specs.Reading.{readingWhole, reading}
 use Rattle.envelope.specs.Rewriting.{rewrote, unread, Rewrites}
 use Rattle.envelope.specs.RoundTrips.{givenBy}
 use Rattle.envelope.specs.Sequence.{stepsOn, Distance, JudgesSequence}
@@ -33,11 +37,12 @@ use Rattle.envelope.specs.declared.rewriter.Rewriting.the-variants as again
 use Rattle.envelope.specs.declared.sequence.Sequence.the-variants.{Ahead, Behind}
 use Rattle.envelope.specs.declared.writer.WriteFault.the-variants.{StrayIntegrity, NoRoom}
 use Rattle.envelope.specs.declared.writer.Writing.{Writing}
+use Rattle.envelope.specs.declared.writer.Writing.the-variants as writer
 use Rattle.sheet.specs.Cases.{M, likeM}
 use Rattle.sheet.proofs.Apart.{apart, accepted-not-refused, refusal-number}
 use Rattle.sheet.proofs.Cases.{starred}
 
--- ---- crc: one fixed answer; the state with nothing inverted; the last byte left out
+-- ---- crc: one fixed answer; the state with nothing inverted; the last byte left out; another polynomial (Castagnoli's); a start value of zero
 
 pub crc-is-not-always-0 : Sums digits 0 → ⊥
 crc-is-not-always-0 kept = apart 0 0xCBF43926 tt (kept ∙ vectors .check-value)
@@ -48,6 +53,12 @@ crc-is-inverted kept = apart 0xFFFFFFFF 0 tt (kept ∙ vectors .no-bytes)
 pub crc-takes-the-last-byte : Sums digits (crc32 (take 8 digits)) → ⊥
 crc-takes-the-last-byte kept =
     apart 0x9AE0DAAF 0xCBF43926 tt (sym (crc32-computes (take 8 digits) tt) ∙ kept ∙ vectors .check-value)
+
+pub crc-has-its-own-polynomial : Sums digits 0xE3069283 → ⊥
+crc-has-its-own-polynomial kept = apart 0xE3069283 0xCBF43926 tt (kept ∙ vectors .check-value)
+
+pub crc-starts-with-all-ones : Sums digits 0xD202D277 → ⊥
+crc-starts-with-all-ones kept = apart 0xD202D277 0xCBF43926 tt (kept ∙ vectors .check-value)
 
 -- ---- read: all turned away; the field skipped where the kind is none; another rule's number
 
@@ -60,7 +71,23 @@ read-does-not-skip-the-field e kept = accepted-not-refused _ 7 (kept ∙ starred
 pub read-gives-the-first-rule : Reads (take 20 M) (Refused (record { fault = WrongVersion })) → ⊥
 read-gives-the-first-rule kept = apart 2 1 tt (refusal-number 2 1 (kept ∙ starred .b))
 
--- ---- write: nothing touched; a byte past the message touched
+-- the sum over the message with its field as zeros, in the field
+abbrev pub fieldAsZeros : List ℕ
+fieldAsZeros =
+    0x04 ∷ 0x17 ∷ 0x70 ∷ 0x01 ∷ 0x08 ∷ 0x00 ∷ 0x00 ∷ 0x04 ∷ 0x00 ∷ 0x00 ∷ 0x00 ∷ 0x01 ∷ 0x00 ∷ 0x00 ∷ 0x00 ∷ 0x00 ∷ 0x00
+    ∷ 0x62 ∷ 0x6F ∷ 0x64 ∷ 0x79 ∷ 0x76 ∷ 0xB6 ∷ 0x90 ∷ 0x24 ∷ []
+
+is-that-sum : crc32 (take 21 fieldAsZeros ++ replicate 4 0) ≡ 0x76B69024
+is-that-sum = crc32-computes (take 21 fieldAsZeros ++ replicate 4 0) tt
+
+reads-as-zeros : reading fieldAsZeros ≡ refusal 7
+unfolding reading readingWhole heading announced badFlags badVariableSize badAddresses badIntegrity twoAt threeAt fourAt
+reads-as-zeros = rw (crc32-computes (take 21 fieldAsZeros) tt)
+
+pub read-does-not-count-the-field-as-zeros : (e : Envelope) → Reads fieldAsZeros (Accepted e) → ⊥
+read-does-not-count-the-field-as-zeros e kept = accepted-not-refused _ 7 (kept ∙ reads-as-zeros)
+
+-- ---- write: nothing touched; a byte past the message touched; another header version; a refusal that writes
 
 abbrev pub givenM : Given
 givenM = givenBy M (likeM absent 17 0)
@@ -76,6 +103,15 @@ write-does-not-touch-nothing r kept =
 pub write-leaves-the-rest : (r : Writing) → Writes givenM (replicate 22 0) r (M ++ 9 ∷ []) → ⊥
 unfolding writing message beforeField fieldNumber badFlags badEnd hasZero strayIntegrity
 write-leaves-the-rest r kept = apart 9 0 tt (ap (λ (s : List ℕ). getD s 21 0) (kept .1))
+
+pub write-puts-header-version-4 : (r : Writing) → Writes givenM (replicate 21 0) r (set M 0 3) → ⊥
+write-puts-header-version-4 r kept =
+    apart 3 4 tt (ap (λ (s : List ℕ). getD s 0 0) (kept .1 ∙ ap (λ (o : Outcome). bufferAfter o (replicate 21 0)) writes-M))
+
+-- no room, and the message's first bytes all the same
+pub write-writes-nothing-on-a-refusal : Writes givenM (replicate 20 0) (writer.Refused NoRoom) (take 20 M) → ⊥
+unfolding writing message beforeField fieldNumber badFlags badEnd hasZero strayIntegrity
+write-writes-nothing-on-a-refusal kept = apart 4 0 tt (ap (λ (s : List ℕ). getD s 0 0) (kept .1))
 
 -- ---- rewrite: nothing touched; a message of which one byte is missing
 

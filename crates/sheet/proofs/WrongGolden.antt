@@ -5,7 +5,7 @@ use mathlib.Core.Path.{_≡_, refl, sym, ap, _∙_}
 use Prim.Native.Nat.{ℕ}
 use denote.Ref.{RefT, now}
 use native.Mathlib.Omega.{arith}
-use lib.ListN.{length, getD, replicate}
+use lib.ListN.{length, getD, set, replicate}
 use Rattle.envelope.specs.Fields.{absent}
 use Rattle.envelope.specs.Numbers.{twoAt}
 use Rattle.envelope.specs.declared.reader.Fault.the-variants.{TooShort}
@@ -138,7 +138,7 @@ pub compare-lists-nothing-on-a-refusal : Compares [] 0 M (9 ∷ []) comparison.N
 unfolding comparing listAfter badFile
 compare-lists-nothing-on-a-refusal kept = apart 0 9 tt (ap (λ (s : List ℕ). getD s 0 0) (kept .1))
 
--- ---- make: into any buffer; nothing touched
+-- ---- make: into any buffer; nothing touched; a byte behind the message
 
 pub make-refuses-a-short-buffer : (exit : List ℕ) → Makes M (replicate 511 0) making.Made exit → ⊥
 unfolding making
@@ -155,6 +155,11 @@ pub make-does-not-touch-nothing : Makes M (replicate 512 0) making.Made (replica
 unfolding recordOf
 make-does-not-touch-nothing kept =
     apart 0 21 tt (ap (λ (s : List ℕ). getD s 1 0) (kept .1 ∙ ap (λ (a : MakeAnswer). bufferAfter a M (replicate 512 0)) makes-M))
+
+pub make-puts-zeros-behind : Makes M (replicate 512 0) making.Made (set (recordOf M) 511 1) → ⊥
+unfolding recordOf
+make-puts-zeros-behind kept =
+    apart 1 0 tt (ap (λ (s : List ℕ). getD s 511 0) (kept .1 ∙ ap (λ (a : MakeAnswer). bufferAfter a M (replicate 512 0)) makes-M))
 
 -- ---- the numbers of a record's fault: another rule's; reading's own left out
 

@@ -5,7 +5,7 @@ use mathlib.Core.Path.{_≡_, refl, ap, sym, _∙_}
 use Prim.Native.Nat.{ℕ, _+_}
 use native.Mathlib.Omega.{arith}
 use borrow.Author.Tests.{lt-ltb}
-use lib.ListN.{length, take, set, replicate}
+use lib.ListN.{length, take, set, getD, replicate}
 use Rattle.envelope.specs.Fields.{Answer, accepted, refusal}
 use Rattle.envelope.specs.Fields as answer
 use Rattle.envelope.specs.Flags.{badFlags}
@@ -17,11 +17,12 @@ use Rattle.envelope.specs.Reading.{reading}
 use Rattle.envelope.specs.Told.{Reads}
 use Rattle.envelope.specs.Writing.{refused, writing, wrote, barred, answerOf, badEnd, hasZero, strayIntegrity, Writes}
 use Rattle.envelope.specs.declared.fields.Envelope.{Envelope}
-use Rattle.envelope.specs.declared.reader.Reading.the-variants.{Accepted}
+use Rattle.envelope.specs.declared.reader.Fault.the-variants.{WrongLength}
+use Rattle.envelope.specs.declared.reader.Reading.the-variants.{Accepted, Refused as Unread}
 use Rattle.envelope.specs.declared.writer.Writing.the-variants.{Written}
 use Rattle.golden.specs.Checking.{counted, checkFrom, checking, Checks}
 use Rattle.golden.specs.Checking as check
-use Rattle.golden.specs.Comparing.{comparing, Compares}
+use Rattle.golden.specs.Comparing.{comparing, listAfter, Compares}
 use Rattle.golden.specs.Comparing as compare
 use Rattle.golden.specs.File.{badFile, judgedAt}
 use Rattle.golden.specs.Making.{made, making, recordOf, Makes}
@@ -29,10 +30,11 @@ use Rattle.golden.specs.Making as make
 use Rattle.golden.specs.Record.{longestMessage, storedWord, storedLength, allZero, badLength, judging}
 use Rattle.golden.specs.Refusal.{Refused, plainly, passingOn}
 use Rattle.golden.specs.declared.checker.Checking.the-variants.{Count}
+use Rattle.golden.specs.declared.comparer.Comparison.{Comparison}
 use Rattle.golden.specs.declared.comparer.Comparison.the-variants.{Same}
 use Rattle.golden.specs.declared.maker.Making.the-variants.{Made}
 use Rattle.sheet.specs.Cases.{M, withAddresses}
-use Rattle.sheet.proofs.Apart.{apart, accepted-not-refused}
+use Rattle.sheet.proofs.Apart.{apart, accepted-not-refused, refusal-number}
 use Rattle.sheet.proofs.Cases.{starred}
 use Rattle.sheet.proofs.WrongAnswers.{givenM}
 
@@ -57,6 +59,9 @@ read-does-not-pass-over-kind-3 e kept = accepted-not-refused _ 3 (kept ∙ unass
 
 pub read-does-not-pass-over-4 : (e : Envelope) → Reads (set M 16 5) (Accepted e) → ⊥
 read-does-not-pass-over-4 e kept = accepted-not-refused _ 4 (kept ∙ starred .d .0)
+
+pub read-gives-4-before-5 : Reads (set M 16 5) (Unread (record { fault = WrongLength })) → ⊥
+read-gives-4-before-5 kept = apart 5 4 tt (refusal-number 5 4 (kept ∙ starred .d .0))
 
 pub read-does-not-pass-over-5 : (e : Envelope) → Reads (M ++ 0 ∷ []) (Accepted e) → ⊥
 read-does-not-pass-over-5 e kept = accepted-not-refused _ 5 (kept ∙ starred .e 0)
@@ -178,6 +183,11 @@ compare-does-not-pass-over-31 entry exit kept =
     let told : compare.same ≡ compare.unlike (passingOn 31 1) = kept .0 ∙ ap compare.answerOf unread-radio in
     let z : _≡_ {A = ℕ} 0 1 = cc in
     omega arith
+
+pub compare-writes-nothing-at-31 : (r : Comparison) → Compares (recordOf M) 0 (take 20 M) (9 ∷ []) r (0 ∷ []) → ⊥
+unfolding listAfter
+compare-writes-nothing-at-31 r kept =
+    apart 0 9 tt (ap (λ (s : List ℕ). getD s 0 0) (kept .1 ∙ ap (λ (o : compare.Outcome). listAfter o (9 ∷ [])) unread-radio))
 
 -- ---- make: any message of 511 bytes, and one that reading refuses
 

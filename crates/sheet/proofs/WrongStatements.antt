@@ -1,6 +1,6 @@
 -- Statements that are a step too strong, each refuted by a pair of messages that the checker computed, and by the files of one record that hold them.
--- Four bits where three are shown (FourBits), three with the stored length, and no window left out (Limits).
-use mathlib.Core.List.{List}
+-- Four bits where three are shown (FourBits), three with the stored length and no window left out (Limits), and five neighbouring bytes.
+use mathlib.Core.List.{List, []}
 use mathlib.Core.Path.{_≡_, refl, ap, sym, _∙_}
 use Prim.Native.Nat.{ℕ, _+_, _%_, _≤_}
 use native.Mathlib.Omega.{arith}
@@ -10,10 +10,17 @@ use Rattle.sum.specs.Crc.{crc32}
 use Rattle.sum.specs.Detection.{Bytes, bitsOf}
 use Rattle.sum.specs.Edge.{DetectsAtEdgeBut}
 use Rattle.sum.specs.Flips.{placesApart, bitsApart, lowBits, DetectsFlips}
-use Rattle.sum.proofs.Computed.{literals}
+use Rattle.sum.proofs.Computed.{literals, crc32-computes}
 use Rattle.sum.proofs.Flips.{placesApart-same}
 use Rattle.envelope.specs.AnyWindow.{WindowsBut}
-use Rattle.envelope.specs.Numbers.{byteAt}
+use Rattle.envelope.specs.Addresses.{badAddresses}
+use Rattle.envelope.specs.Demand3.{DeclaresCrc}
+use Rattle.envelope.specs.Fields.{absent, crc, Fields, accepted}
+use Rattle.envelope.specs.Flags.{badFlags}
+use Rattle.envelope.specs.Heading.{announced, badVariableSize, heading}
+use Rattle.envelope.specs.IntegrityField.{badIntegrity}
+use Rattle.envelope.specs.Numbers.{byteAt, twoAt, threeAt, fourAt}
+use Rattle.envelope.specs.Reading.{headerOf, addressingOf, integrityOf, fieldsOf, readingWhole, reading}
 use Rattle.envelope.specs.TwoBits.{summed, BitsBeforeField, BitsAnywhere}
 use Rattle.golden.specs.File.{recordAt}
 use Rattle.golden.specs.Making.{recordOf}
@@ -22,6 +29,7 @@ use Rattle.golden.specs.Theorems.{SameButMessage, GoldenBitsBeforeField, Golden
 use Rattle.sheet.specs.Cases.{C}
 use Rattle.sheet.specs.FourBits.{zeros, fourSet}
 use Rattle.sheet.specs.Limits.{acrossTheEdge, shortBody, longBody, FileBits}
+use Rattle.sheet.specs.WrongStatements.{DetectsFiveBytes, FivePlaces, withFive, fiveZeros, fiveOthers}
 use Rattle.sheet.proofs.Apart.{apart}
 use Rattle.sheet.proofs.Cases.{sum-of-C}
 use Rattle.sheet.proofs.FourBits.{sum-zeros, sum-four, four-bits}
@@ -166,3 +174,40 @@ not-every-golden-window law =
         law (recordOf C) (recordOf acrossTheEdge) 1 1 0 17 (bytes-of-pair .0) (bytes-of-pair .1)
         (one-checks C (limits .first) (lit≤ tt)) (one-checks acrossTheEdge (limits .second) (lit≤ tt)) (lit< tt)
         (one-declares C (limits .first) (lit≤ tt)) (one-declares acrossTheEdge (limits .second) (lit≤ tt)) (lit≤ tt) (λ n. n) pair-length pair-outside
+
+-- ---- five neighbouring bytes
+
+five-sums : (crc32 (take 22 (withFive fiveZeros)) ≡ 0x2BF3A273) × (crc32 (take 22 (withFive fiveOthers)) ≡ 0x2BF3A273)
+five-sums = (crc32-computes (take 22 (withFive fiveZeros)) tt, crc32-computes (take 22 (withFive fiveOthers)) tt)
+
+abbrev fieldsOfFive : Fields
+fieldsOfFive =
+    record {
+      header = record { messageType = 6000; version = 1; flags = 8; number = 1; time = 0 };
+      addressing = absent;
+      body = record { place = 17; size = 5 };
+      integrity = crc 0x2BF3A273;
+    }
+
+five-read : (reading (withFive fiveZeros) ≡ accepted fieldsOfFive) × (reading (withFive fiveOthers) ≡ accepted fieldsOfFive)
+unfolding reading readingWhole fieldsOf headerOf addressingOf integrityOf heading announced badFlags badVariableSize badAddresses badIntegrity twoAt threeAt fourAt
+five-read = (rw (five-sums .0), rw (five-sums .1))
+
+five-declare : DeclaresCrc (withFive fiveZeros) × DeclaresCrc (withFive fiveOthers)
+five-declare =
+    (record { fields = fieldsOfFive; accepts = five-read .0; declares = refl }, record { fields = fieldsOfFive; accepts = five-read .1; declares = refl })
+
+pub five-bytes-pass : DetectsFiveBytes → ⊥
+five-bytes-pass law =
+    apart 0x00 0x05 tt
+    (ap (λ (s : List ℕ). byteAt s 0)
+    (law (take 17 (withFive fiveZeros)) fiveZeros fiveOthers []
+    (literals (take 17 (withFive fiveZeros)) tt) (literals fiveZeros tt) (literals fiveOthers tt) (literals [] tt) refl (lit≤ tt)
+    (five-sums .0 ∙ sym (five-sums .1))))
+
+pub five-places-pass : FivePlaces → ⊥
+five-places-pass law =
+    apart 0x00 0x05 tt
+    (ap (λ (s : List ℕ). byteAt s 17)
+    (law (withFive fiveZeros) (withFive fiveOthers) 17 (literals (withFive fiveZeros) tt) (literals (withFive fiveOthers) tt) refl
+    (five-declare .0) (five-declare .1) (lit≤ tt) (same-but 17 22 (withFive fiveZeros) (withFive fiveOthers) refl refl)))
