@@ -6,7 +6,8 @@ use Prim.Native.Nat.{ℕ, zero, suc, _-_}
 use lib.ListN.{length}
 pub use Rattle.sum.proofs.Laws.{only-by-telling}
 use Rattle.sum.specs.Promise.{Only₁}
-use Rattle.envelope.specs.Fields.{Span, HeaderFields, AddressingFields, absent, present, IntegrityFields, none, crc, application, Answer, accepted, refused}
+use Rattle.envelope.specs.Fields.{Span, HeaderFields, AddressingFields, absent, present, IntegrityFields, none, crc, application, Fields, Answer, accepted, refused}
+use Rattle.envelope.specs.Fields as paper
 use Rattle.envelope.specs.Lateness.{LatenessAnswer, noClock, late, inTime, lateness, toldLateness, JudgesLateness}
 use Rattle.envelope.specs.Message.{Given}
 use Rattle.envelope.specs.Numbers.{TwoBytes, ThreeBytes, FourBytes}
@@ -17,7 +18,7 @@ use Rattle.envelope.specs.Reading.{reading}
 use Rattle.envelope.specs.Rewriting.{RewriteAnswer, toldRewriting, Rewrites}
 use Rattle.envelope.specs.Rewriting as rewriting
 use Rattle.envelope.specs.Sequence.{SequenceAnswer, repeat, next, ahead, behind, sequenceOf, distance, toldSequence, Distance, JudgesSequence}
-use Rattle.envelope.specs.Told.{toldFault, NumbersFault, toldAddressing, toldIntegrity, toldEnvelope, told, Slices, Reads, Holds}
+use Rattle.envelope.specs.Told.{toldFault, toldRefusal, NumbersFault, toldAddressing, toldIntegrity, toldEnvelope, told, Slices, Reads, Holds}
 use Rattle.envelope.specs.Writing.{WriteAnswer, wrote, barred, answerOf, writing, toldWriteFault, NumbersWriteFault, toldWriting, Writes}
 use Rattle.envelope.specs.declared.fields.Part.{Part}
 use Rattle.envelope.specs.declared.fields.Header.{Header}
@@ -35,6 +36,7 @@ use Rattle.envelope.specs.declared.reader.Fault.{Fault}
 use Rattle.envelope.specs.declared.reader.Fault.the-variants.{TooShort, WrongVersion, BadFlags, BadVariableSize, WrongLength, BadAddresses, BadIntegrity}
 use Rattle.envelope.specs.declared.reader.Reading.{Reading}
 use Rattle.envelope.specs.declared.reader.Reading.the-variants.{Accepted, Refused}
+use Rattle.envelope.specs.declared.reader.Refusal.{Refusal}
 use Rattle.envelope.specs.declared.sequence.Sequence.{Sequence}
 use Rattle.envelope.specs.declared.sequence.Sequence.the-variants.{Repeat, Next, Ahead, Behind}
 use Rattle.envelope.specs.declared.rewriter.Rewriting.{Rewriting}
@@ -64,6 +66,12 @@ untold-fault BadVariableSize = refl
 untold-fault WrongLength = refl
 untold-fault BadAddresses = refl
 untold-fault BadIntegrity = refl
+
+abbrev pub untoldRefusal : paper.Refusal → Refusal
+untoldRefusal r = record { fault = untoldFault (r .number) }
+
+pub untold-refusal : (r : Refusal) → untoldRefusal (toldRefusal r) ≡ r
+untold-refusal r = λ i. record { fault = untold-fault (r .fault) i }
 
 pub only-numbers-fault : (f : Fault) → Only₁ (NumbersFault f)
 only-numbers-fault f a b p q = p ∙ sym q
@@ -99,27 +107,31 @@ untold-integrity None = refl
 untold-integrity (Crc held) = refl
 untold-integrity (Application held) = refl
 
-abbrev untold : Answer → Reading
-untold (accepted f) =
-    Accepted
-    (record {
+abbrev pub untoldEnvelope : Fields → Envelope
+untoldEnvelope f =
+    record {
       header = untoldHeader (f .header);
       addressing = untoldAddressing (f .addressing);
       body = untoldPart (f .body);
       integrity = untoldIntegrity (f .integrity);
-    })
-untold (refused r) = Refused (record { fault = untoldFault (r .number) })
+    }
 
-untold-told : (r : Reading) → untold (told r) ≡ r
-untold-told (Accepted e) = λ i.
-    Accepted
-    (record {
+pub untold-envelope : (e : Envelope) → untoldEnvelope (toldEnvelope e) ≡ e
+untold-envelope e = λ i.
+    record {
       header = e .header;
       addressing = untold-addressing (e .addressing) i;
       body = e .body;
       integrity = untold-integrity (e .integrity) i;
-    })
-untold-told (Refused r) = λ i. Refused (record { fault = untold-fault (r .fault) i })
+    }
+
+abbrev untold : Answer → Reading
+untold (accepted f) = Accepted (untoldEnvelope f)
+untold (refused r) = Refused (untoldRefusal r)
+
+untold-told : (r : Reading) → untold (told r) ≡ r
+untold-told (Accepted e) = ap Accepted (untold-envelope e)
+untold-told (Refused r) = ap Refused (untold-refusal r)
 
 pub only-reads : (bytes : List ℕ) → Only₁ (Reads bytes)
 only-reads bytes = only-by-telling told untold untold-told (reading bytes)
@@ -238,12 +250,12 @@ only-writes g entry a b x y p q =
 
 abbrev untoldRewriting : RewriteAnswer → Rewriting
 untoldRewriting (rewriting.rewrote n) = again.Written n
-untoldRewriting (rewriting.unread r) = again.Unread (record { fault = untoldFault (r .number) })
+untoldRewriting (rewriting.unread r) = again.Unread (untoldRefusal r)
 untoldRewriting (rewriting.barred n) = again.NoRoom
 
 untold-rewriting : (r : Rewriting) → untoldRewriting (toldRewriting r) ≡ r
 untold-rewriting (again.Written n) = refl
-untold-rewriting (again.Unread r) = λ i. again.Unread (record { fault = untold-fault (r .fault) i })
+untold-rewriting (again.Unread r) = ap again.Unread (untold-refusal r)
 untold-rewriting again.NoRoom = refl
 
 pub only-rewrites : (s entry : List ℕ) → Only₂ (Rewrites s entry)

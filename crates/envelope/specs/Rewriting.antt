@@ -10,7 +10,7 @@ use Rattle.envelope.specs.Fields.{Refusal, Answer, accepted, refused}
 use Rattle.envelope.specs.Layout.{largestMessage}
 use Rattle.envelope.specs.Promise.{Bytes}
 use Rattle.envelope.specs.Reading.{reading}
-use Rattle.envelope.specs.Told.{toldFault}
+use Rattle.envelope.specs.Told.{toldRefusal}
 use Rattle.envelope.specs.declared.rewriter.Rewriting.{Rewriting}
 use Rattle.envelope.specs.declared.rewriter.Rewriting.the-variants.{Written, Unread, NoRoom}
 
@@ -34,7 +34,7 @@ rewritten (barred n) s entry = entry
 
 abbrev pub toldRewriting : Rewriting → RewriteAnswer
 toldRewriting (Written n) = rewrote n
-toldRewriting (Unread r) = unread (record { number = toldFault (r .fault) })
+toldRewriting (Unread r) = unread (toldRefusal r)
 toldRewriting NoRoom = barred 15
 
 -- no message is longer than the longest; proved in proofs/RewriteLaws

@@ -3,7 +3,7 @@
 use Prim.Native.Nat.{ℕ}
 use mathlib.Core.List.{List}
 use mathlib.Core.Path.{_≡_}
-use Rattle.envelope.specs.Fields.{Span, HeaderFields, AddressingFields, absent, present, IntegrityFields, none, crc, application, Fields, Answer, accepted, refusal, partOf}
+use Rattle.envelope.specs.Fields.{Span, HeaderFields, AddressingFields, absent, present, IntegrityFields, none, crc, application, Fields, Refusal, Answer, accepted, refused, partOf}
 use Rattle.envelope.specs.Reading.{reading}
 use Rattle.envelope.specs.declared.fields.Part.{Part}
 use Rattle.envelope.specs.declared.fields.Header.{Header}
@@ -16,6 +16,7 @@ use Rattle.envelope.specs.declared.reader.Fault.{Fault}
 use Rattle.envelope.specs.declared.reader.Fault.the-variants.{TooShort, WrongVersion, BadFlags, BadVariableSize, WrongLength, BadAddresses, BadIntegrity}
 use Rattle.envelope.specs.declared.reader.Reading.{Reading}
 use Rattle.envelope.specs.declared.reader.Reading.the-variants.{Accepted, Refused}
+use Rattle.envelope.specs.declared.reader.Refusal.{Refusal as CodeRefusal}
 
 abbrev pub toldFault : Fault → ℕ
 toldFault TooShort = 1
@@ -29,6 +30,10 @@ toldFault BadIntegrity = 7
 -- what `Fault::number` promises
 abbrev pub NumbersFault : Fault → ℕ → Type 0
 NumbersFault f r = r ≡ toldFault f
+
+-- whoever passes a refusal on passes on all of it
+abbrev pub toldRefusal : CodeRefusal → Refusal
+toldRefusal r = record { number = toldFault (r .fault) }
 
 abbrev pub toldPart : Part → Span
 toldPart p = record { place = p .place; size = p .size }
@@ -63,7 +68,7 @@ toldEnvelope e =
 
 abbrev pub told : Reading → Answer
 told (Accepted e) = accepted (toldEnvelope e)
-told (Refused r) = refusal (toldFault (r .fault))
+told (Refused r) = refused (toldRefusal r)
 
 -- what `Part::slice` promises: the bytes of the part, as far as they reach
 abbrev pub Slices : Part → List ℕ → List ℕ → Type 0

@@ -1,6 +1,7 @@
-// EMP envelopes: reading any bytes, writing a message, and what an accepted envelope tells (QoS, lateness, sequence).
+// EMP envelopes: reading any bytes, what the first of them announce, writing a message, and what an accepted envelope tells (QoS, lateness, sequence).
 // Rests on the crate `sum`, by its promise alone.
 mod addresses;
+pub mod announcer;
 pub mod fields;
 mod flags;
 mod integrity_field;
@@ -12,6 +13,8 @@ pub mod rewriter;
 pub mod sequence;
 pub mod writer;
 
+pub use crate::announcer::Announcement;
+pub use crate::announcer::announce;
 pub use crate::fields::Addressing;
 pub use crate::fields::Envelope;
 pub use crate::fields::Header;

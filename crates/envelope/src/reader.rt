@@ -41,7 +41,7 @@ pub enum Reading {
     Refused(Refusal),
 }
 
-enum Heading {
+pub(crate) enum Heading {
     Passed,
     Broken(Fault),
 }
@@ -61,7 +61,7 @@ pub fn read(bytes: &[u8]) -> Reading
 }
 
 // Rules 2 to 4, on the header alone.
-fn judge_heading(bytes: &[u8]) -> Heading
+pub(crate) fn judge_heading(bytes: &[u8]) -> Heading
     requires { ⌜ headerSize ≤ length (now bytes) ⌝ }
     ensures { λ r. ⌜ toldHeading r ≡ heading (now (bytes .entry)) ⌝ }
 {
