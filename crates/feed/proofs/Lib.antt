@@ -1,0 +1,14 @@
+pub mod LaidLaws
+pub mod VerdictLaws
+pub mod TakingLaws
+pub mod BulkLaws
+pub mod StandLaws
+pub mod OnlyLaws
+pub mod RunLaws
+pub mod UseLaws
+pub mod SettlingLaws
+pub mod WeighedLaws
+pub mod FoundLaws
+pub mod RefusedLaws
+pub mod StopLaws
+pub mod BitsLaws

@@ -1,0 +1,109 @@
+-- After a refusal, at the end, and with an empty piece: where the outcome is known whole, one answer alone is left.
+-- That a refusal which is told stands from then on goes byte by byte.
+use mathlib.Core.List.{List, [], _∷_}
+use mathlib.Core.Path.{_≡_, refl, ap, sym, _∙_, subst}
+use Prim.Native.Nat.{ℕ, zero, suc, _<_}
+use native.Mathlib.Omega.{arith}
+use Rattle.feed.specs.Feeding.{Stand, inside, whole, refused, State, begunBy, begun, nothing, refusal, Outcome, closing, findingBy, standing, still, furtherBy, taking, ending, endBy}
+use Rattle.feed.specs.Stopping.{RefusalIsKept, EndIsKept, RefusalStands, RestartIsNew, EmptyPiece, EndBetween, EndInside}
+use Rattle.feed.specs.Told.{toldFault, toldStanding, toldFeed, toldFound, toldTaken, toldEnded}
+use Rattle.feed.specs.Verdict.{FeedFault, Verdict, more, complete, bad}
+use Rattle.feed.specs.declared.fault.Fault.the-variants.{Cut}
+use Rattle.feed.specs.declared.step.Found.the-variants.{Nothing, Refused as Barred}
+use Rattle.feed.specs.declared.step.Standing.the-variants.{Refused}
+use Rattle.feed.proofs.OnlyLaws.{untold-standing, untoldStanding, untold-feed-fault, same-feed, only-fresh, only-takes, only-ends}
+use Rattle.feed.proofs.RunLaws.{Byte, repeats, goes-in, byte}
+use Rattle.feed.proofs.StandLaws.{still-as, refused-takes, end-refused, end-whole, end-between, end-inside, cutShort}
+use Rattle.feed.proofs.TakingLaws.{taking-nil, taking-cons}
+use Rattle.feed.proofs.UseLaws.{refusal-not-nothing}
+
+-- ---- a refusal that is told stands
+
+abbrev Stands : Outcome → FeedFault → Type 0
+Stands o f = o .finding ≡ refusal f → o .state .stand ≡ refused f
+
+still-stands : (s : State) (f : FeedFault) → Stands (still s) f
+still-stands s f = go (s .stand) refl
+  where
+    go : (t : Stand) → s .stand ≡ t → standing (s .stand) ≡ refusal f → s .stand ≡ refused f
+    go inside e r = absurd (refusal-not-nothing f (sym r ∙ ap standing e))
+    go whole e r = absurd (refusal-not-nothing f (sym r ∙ ap standing e))
+    go (refused g) e r = let same : refusal g ≡ refusal f = ap standing (sym e) ∙ r in e ∙ again g same
+      where
+        again : (g : FeedFault) → refusal g ≡ refusal f → refused g ≡ refused f
+        again g q = cc
+
+closing-stands : (v : Verdict) (k : List ℕ) (n : ℕ) (f : FeedFault) (later : Outcome) → Stands later f
+    → Stands (furtherBy (findingBy v n) (closing v k n 1) later) f
+closing-stands more k n f later h = h
+closing-stands (complete g) k n f later h = λ e. cc
+closing-stands (bad g) k n f later h = λ e. cc
+
+taking-stands : (piece : List ℕ) (s : State) (f : FeedFault) → Stands (taking s piece) f
+taking-stands [] s f = rw (taking-nil s) (still-stands s f)
+taking-stands (x ∷ l) s f = go (λ t. taking-stands l t f) (byte s x)
+  where
+    go : ((t : State) → Stands (taking t l) f) → Byte s x → Stands (taking s (x ∷ l)) f
+    go later (repeats g e b) = rw (← refused-takes s g (x ∷ l) e) (still-stands s f)
+    go later (goes-in v q b o) = rw (taking-cons s x l _ b) (closing-stands v _ _ f _ (later _))
+
+end-stands : (t : Stand) (m : ℕ) (s : State) (f : FeedFault) → Stands (endBy t m s) f
+end-stands inside zero s f = still-stands s f
+end-stands inside (suc n) s f = λ e. cc
+end-stands whole m s f = still-stands s f
+end-stands (refused g) m s f = still-stands s f
+
+ending-stands : (s : State) (f : FeedFault) → Stands (ending s) f
+unfolding ending
+ending-stands s f = end-stands (s .stand) (begun s) s f
+
+pub refusal-is-kept : RefusalIsKept
+refusal-is-kept f fault piece t p e =
+    let stands : Stands (toldTaken t) (toldFault fault) =
+    subst (λ (o : Outcome). Stands o (toldFault fault)) (sym p) (taking-stands piece (toldFeed f) (toldFault fault)) in
+    sym (untold-standing (t .feed .standing)) ∙ ap untoldStanding (stands (ap toldFound e)) ∙ ap Refused (untold-feed-fault fault)
+
+pub end-is-kept : EndIsKept
+end-is-kept f fault t p e =
+    let stands : Stands (toldEnded t) (toldFault fault) =
+    subst (λ (o : Outcome). Stands o (toldFault fault)) (sym p) (ending-stands (toldFeed f) (toldFault fault)) in
+    sym (untold-standing (t .feed .standing)) ∙ ap untoldStanding (stands (ap toldFound e)) ∙ ap Refused (untold-feed-fault fault)
+
+-- ---- while it stands
+
+pub refusal-stands : RefusalStands
+refusal-stands f fault piece t e r p q =
+    let stands : toldStanding (f .standing) ≡ refused (toldFault fault) = ap toldStanding r in
+    let repeated = still-as (toldFeed f) (refused (toldFault fault)) stands in (
+      only-takes f piece t (record { feed = f; used = 0; found = Barred fault }) p (sym repeated ∙ refused-takes (toldFeed f) (toldFault fault) piece stands),
+      only-ends f e (record { feed = f; found = Barred fault }) q (sym repeated ∙ sym (end-refused (toldFeed f) (toldFault fault) stands)),
+    )
+
+pub restart-is-new : RestartIsNew
+restart-is-new = only-fresh
+
+pub empty-piece : EmptyPiece
+empty-piece f t p =
+    let e : toldTaken t ≡ still (toldFeed f) = p ∙ taking-nil (toldFeed f) in
+    (same-feed (t .feed) f (ap (λ (o : Outcome). o .state) e), ap (λ (o : Outcome). o .used) e, ap (λ (o : Outcome). o .finding) e)
+
+-- ---- the end
+
+end-nothing : (s : State) (t : Stand) → s .stand ≡ t → standing t ≡ nothing → begunBy t (s .count) ≡ 0
+    → ending s ≡ record { state = s; used = 0; finding = nothing }
+end-nothing s inside e g z = end-between s e z ∙ still-as s inside e
+end-nothing s whole e g z = end-whole s e ∙ still-as s whole e
+end-nothing s (refused f) e g z = absurd (refusal-not-nothing f g)
+
+pub ends-between : EndBetween
+ends-between f e p w = only-ends f e (record { feed = f; found = Nothing }) p (sym (end-nothing (toldFeed f) _ refl (w .going) (w .none)))
+
+end-cuts : (s : State) (t : Stand) → s .stand ≡ t → 0 < begunBy t (s .count) → ending s ≡ cutShort s
+end-cuts s inside e h = end-inside s e (λ z. absurd (omega arith))
+end-cuts s whole e h = absurd (omega arith)
+end-cuts s (refused f) e h = absurd (omega arith)
+
+pub ends-inside : EndInside
+ends-inside f e p h =
+    only-ends f e (record { feed = record { kept = f .kept; count = f .count; standing = Refused Cut }; found = Barred Cut }) p
+    (sym (end-cuts (toldFeed f) _ refl h))

@@ -1,0 +1,9 @@
+pub mod Verdict
+pub mod Feeding
+pub mod Stream
+pub mod Told
+pub mod Helpers
+pub mod Cutting
+pub mod Messages
+pub mod Stopping
+pub mod TwoBits

@@ -1,0 +1,45 @@
+-- What stops a feed and what does not: a refusal, the end, an empty piece, a restart.
+-- Proofs in proofs/StopLaws.
+use Prim.Native.Nat.{ℕ, _<_}
+use mathlib.Core.List.{List, []}
+use mathlib.Core.Path.{_≡_}
+use Rattle.feed.specs.Feeding.{begun, standing}
+use Rattle.feed.specs.Messages.{Between}
+use Rattle.feed.specs.Told.{toldFeed, toldTaken, Fresh, Takes, Ends}
+use Rattle.feed.specs.declared.fault.Fault.{Fault}
+use Rattle.feed.specs.declared.fault.Fault.the-variants.{Cut}
+use Rattle.feed.specs.declared.feeder.Ended.{Ended}
+use Rattle.feed.specs.declared.feeder.Feed.{Feed}
+use Rattle.feed.specs.declared.feeder.Taken.{Taken}
+use Rattle.feed.specs.declared.step.Found.the-variants.{Nothing, Refused as Barred}
+use Rattle.feed.specs.declared.step.Standing.the-variants.{Refused}
+
+-- a refusal that a call tells stands from then on
+abbrev pub RefusalIsKept : Type 0
+RefusalIsKept = (f : Feed) (fault : Fault) (piece : List ℕ) (t : Taken) → Takes f piece t → t .found ≡ Barred fault → t .feed .standing ≡ Refused fault
+
+-- so does the end's
+abbrev pub EndIsKept : Type 0
+EndIsKept = (f : Feed) (fault : Fault) (e : Ended) → Ends f e → e .found ≡ Barred fault → e .feed .standing ≡ Refused fault
+
+-- while it stands nothing is used and nothing changes, and every call repeats it
+abbrev pub RefusalStands : Type 0
+RefusalStands = (f : Feed) (fault : Fault) (piece : List ℕ) (t : Taken) (e : Ended) → f .standing ≡ Refused fault → Takes f piece t → Ends f e
+    → (t ≡ record { feed = f; used = 0; found = Barred fault }) × (e ≡ record { feed = f; found = Barred fault })
+
+-- until a restart, which gives the feed that `new` gives
+abbrev pub RestartIsNew : Type 0
+RestartIsNew = (restarted new : Feed) → Fresh restarted → Fresh new → restarted ≡ new
+
+-- an empty piece changes nothing and finds nothing new: what stands is told again
+abbrev pub EmptyPiece : Type 0
+EmptyPiece = (f : Feed) (t : Taken) → Takes f [] t → (t .feed ≡ f) × (t .used ≡ 0) × (toldTaken t .finding ≡ standing (toldFeed f .stand))
+
+-- the end between messages is no refusal and changes nothing
+abbrev pub EndBetween : Type 0
+EndBetween = (f : Feed) (e : Ended) → Ends f e → Between (toldFeed f) → e ≡ record { feed = f; found = Nothing }
+
+-- inside one it is 52, and the bytes kept stay
+abbrev pub EndInside : Type 0
+EndInside = (f : Feed) (e : Ended) → Ends f e → 0 < begun (toldFeed f)
+    → e ≡ record { feed = record { kept = f .kept; count = f .count; standing = Refused Cut }; found = Barred Cut }

@@ -1,0 +1,43 @@
+-- What the bytes of a message say, from its first to the one that just came: more is to come, it is whole, or it is refused.
+-- Heading and message are judged by `announcing` and `reading` of the layer below; this file adds the room of 510 bytes.
+use Prim.Native.Nat.{ℕ}
+use mathlib.Core.Bool.{cond}
+use mathlib.Core.List.{List}
+use lib.Dec.{ltb}
+use lib.ListN.{length}
+use Rattle.envelope.specs.Announcing.{AnnouncementAnswer, unfinished, refused as refusedHeading, announces, announcing}
+use Rattle.envelope.specs.Fields.{Fields, Refusal, Answer, accepted, refused as unread}
+use Rattle.envelope.specs.Reading.{reading}
+
+-- the longest message that a feed takes
+abbrev pub room : ℕ
+room = 510
+
+-- a refusal of reading, passed on whole; 51, the announced length is over the room; 52, the end came inside a message
+pub data FeedFault : Type 0 where
+  reads : Refusal → FeedFault
+  tooLong : FeedFault
+  cut : FeedFault
+
+abbrev pub numberOf : FeedFault → ℕ
+numberOf (reads r) = r .number
+numberOf tooLong = 51
+numberOf cut = 52
+
+pub data Verdict : Type 0 where
+  more : Verdict
+  complete : Fields → Verdict
+  bad : FeedFault → Verdict
+
+abbrev pub settled : Answer → Verdict
+settled (accepted f) = complete f
+settled (unread r) = bad (reads r)
+
+-- the heading first (2, 3, 4), then 51, and when the announced length is in, reading (6, 7)
+abbrev pub weighed : AnnouncementAnswer → List ℕ → Verdict
+weighed unfinished m = more
+weighed (refusedHeading r) m = bad (reads r)
+weighed (announces n) m = cond (ltb room n) (bad tooLong) (cond (ltb (length m) n) more (settled (reading m)))
+
+unfoldable pub verdict : List ℕ → Verdict
+verdict m = weighed (announcing m) m
