@@ -5,6 +5,7 @@ use Prim.Native.Nat.{ℕ}
 use denote.Ref.{RefT}
 use Rattle.sum.specs.Promise.{Only₁, Sums}
 use Rattle.sum.proofs.Laws.{only-sums}
+use Rattle.envelope.specs.Announcing.{Announces}
 use Rattle.envelope.specs.Lateness.{JudgesLateness}
 use Rattle.envelope.specs.Message.{Given}
 use Rattle.envelope.specs.Numbers.{TwoBytes, ThreeBytes, FourBytes}
@@ -22,6 +23,7 @@ use Rattle.envelope.specs.declared.fields.Part.{Part}
 use Rattle.envelope.specs.declared.qos.Qos.{Qos}
 use Rattle.envelope.specs.declared.reader.Fault.{Fault}
 use Rattle.envelope.specs.declared.writer.WriteFault.{WriteFault}
+use Rattle.envelope.proofs.AnnouncingLaws.{only-announces}
 use Rattle.envelope.proofs.OnlyLaws as only
 use Rattle.envelope.proofs.WriteLaws.{refusal-writes-nothing}
 use Rattle.golden.specs.Checking.{Checks}
@@ -38,6 +40,11 @@ use Rattle.golden.specs.declared.record.RecordFault.{RecordFault}
 use Rattle.golden.specs.declared.walker.Walk.{Walk}
 use Rattle.golden.proofs.OnlyLaws as golden
 use Rattle.golden.proofs.KeptLaws.{refused-comparison-keeps-list, refused-making-keeps-buffer}
+use Rattle.feed.specs.Told.{NumbersFault as NumbersFeedFault, Fresh, Takes, Ends, Advances, Closes, Holds as HoldsMessage}
+use Rattle.feed.specs.declared.fault.Fault.{Fault as FeedFault}
+use Rattle.feed.specs.declared.feeder.Feed.{Feed}
+use Rattle.feed.specs.declared.step.Standing.{Standing}
+use Rattle.feed.proofs.OnlyLaws as feed
 use Rattle.exports.specs.Envelopes.{ReadsForC, WritesForC, RewritesForC, SplitsForC, JoinsForC, JudgesLatenessForC, JudgesSequenceForC}
 use Rattle.exports.specs.Goldens.{CountsForC, ChecksForC, FindsForC, EntersForC, StepsForC, ComparesForC, MakesForC}
 use Rattle.exports.specs.Word.{WordTellsItsSlots}
@@ -49,6 +56,9 @@ crc-has-one-answer = only-sums
 
 pub read-has-one-answer : (bytes : List ℕ) → Only₁ (Reads bytes)
 read-has-one-answer = only.only-reads
+
+pub announce-has-one-answer : (bytes : List ℕ) → Only₁ (Announces bytes)
+announce-has-one-answer = only-announces
 
 pub write-has-one-outcome : (g : Given) (entry : List ℕ) → Only₂ (Writes g entry)
 write-has-one-outcome = only.only-writes
@@ -124,6 +134,29 @@ make-has-one-outcome = golden.only-makes
 
 pub record-fault-numbers-have-one-answer : (f : RecordFault) → Only₁ (NumbersRecordFault f)
 record-fault-numbers-have-one-answer = golden.only-numbers-record-fault
+
+-- ---- the feed: the answer and the later feed, or the later content of the bytes lent
+
+pub feed-new-and-restart-have-one-answer : Only₁ Fresh
+feed-new-and-restart-have-one-answer = feed.only-fresh
+
+pub feed-take-has-one-outcome : (f : Feed) (piece : List ℕ) → Only₁ (Takes f piece)
+feed-take-has-one-outcome = feed.only-takes
+
+pub feed-end-has-one-outcome : (f : Feed) → Only₁ (Ends f)
+feed-end-has-one-outcome = feed.only-ends
+
+pub advance-has-one-outcome : (entry : List ℕ) (count : ℕ) (standing : Standing) (piece : List ℕ) → Only₂ (Advances entry count standing piece)
+advance-has-one-outcome = feed.only-advances
+
+pub close-has-one-answer : (count : ℕ) (standing : Standing) → Only₁ (Closes count standing)
+close-has-one-answer = feed.only-closes
+
+pub held-has-one-answer : (kept : List ℕ) (count : ℕ) (standing : Standing) → Only₁ (HoldsMessage kept count standing)
+held-has-one-answer = feed.only-holds
+
+pub feed-fault-number-has-one-answer : (f : FeedFault) → Only₁ (NumbersFeedFault f)
+feed-fault-number-has-one-answer = feed.only-numbers-fault
 
 -- ---- the C interface; `morlewen_crc` and `morlewen_distance` promise what `crc` and `distance` do
 

@@ -31,11 +31,11 @@ told =
       integrity = crc 0x6E8DEA63;
     }
 
-reads-zeros : reading zeros ≡ accepted told
+pub reads-zeros : reading zeros ≡ accepted told
 unfolding reading readingWhole fieldsOf headerOf addressingOf integrityOf heading announced badFlags badVariableSize badAddresses badIntegrity twoAt threeAt fourAt
 reads-zeros = rw sum-zeros
 
-reads-four : reading fourSet ≡ accepted told
+pub reads-four : reading fourSet ≡ accepted told
 unfolding reading readingWhole fieldsOf headerOf addressingOf integrityOf heading announced badFlags badVariableSize badAddresses badIntegrity twoAt threeAt fourAt
 reads-four = rw sum-four
 

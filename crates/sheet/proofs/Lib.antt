@@ -4,12 +4,17 @@ pub mod Limits
 pub mod FourBits
 pub mod OneRecord
 pub mod Edges
+pub mod OneFeed
+pub mod FeedCases
 pub mod Demand1
 pub mod Demand2
 pub mod Demand3
+pub mod Feeding
 pub mod WrongAnswers
 pub mod WrongGolden
+pub mod WrongFeeds
 pub mod WrongExports
 pub mod WrongRules
 pub mod WrongStatements
 pub mod Instances
+pub mod FeedInstances

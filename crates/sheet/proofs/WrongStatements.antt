@@ -1,4 +1,4 @@
--- Statements that are a step too strong, each refuted by a pair of messages that the checker computed, and by the files of one record that hold them.
+-- Statements that are a step too strong, each refuted by a pair of messages that the checker computed, by the files that hold them and by feeds that find them.
 -- Four bits where three are shown (FourBits), three with the stored length and no window left out (Limits), and five neighbouring bytes.
 use mathlib.Core.List.{List, []}
 use mathlib.Core.Path.{_≡_, refl, ap, sym, _∙_}
@@ -22,6 +22,9 @@ use Rattle.envelope.specs.IntegrityField.{badIntegrity}
 use Rattle.envelope.specs.Numbers.{byteAt, twoAt, threeAt, fourAt}
 use Rattle.envelope.specs.Reading.{headerOf, addressingOf, integrityOf, fieldsOf, readingWhole, reading}
 use Rattle.envelope.specs.TwoBits.{summed, BitsBeforeField, BitsAnywhere}
+use Rattle.envelope.specs.declared.fields.Envelope.{Envelope}
+use Rattle.envelope.specs.declared.fields.Integrity.the-variants.{Crc}
+use Rattle.feed.specs.TwoBits.{FoundSomewhere, FeedBitsBeforeField, FeedBits}
 use Rattle.golden.specs.File.{recordAt}
 use Rattle.golden.specs.Making.{recordOf}
 use Rattle.golden.specs.Record.{messageOf}
@@ -32,8 +35,9 @@ use Rattle.sheet.specs.Limits.{acrossTheEdge, shortBody, longBody, FileB
 use Rattle.sheet.specs.WrongStatements.{DetectsFiveBytes, FivePlaces, withFive, fiveZeros, fiveOthers}
 use Rattle.sheet.proofs.Apart.{apart}
 use Rattle.sheet.proofs.Cases.{sum-of-C}
-use Rattle.sheet.proofs.FourBits.{sum-zeros, sum-four, four-bits}
+use Rattle.sheet.proofs.FourBits.{sum-zeros, sum-four, reads-zeros, reads-four, four-bits}
 use Rattle.sheet.proofs.Limits.{sum-across, same-but, limits, bytes-of-pair, pair-length, pair-outside, stored-length}
+use Rattle.sheet.proofs.OneFeed.{envelopeOf, found-somewhere}
 use Rattle.sheet.proofs.OneRecord.{one-checks, one-holds, one-declares}
 
 -- ---- four bits
@@ -146,6 +150,26 @@ three-bits-of-a-record-pass law =
         (one-checks shortBody (stored-length .first) (lit≤ tt)) (one-checks longBody (stored-length .second) (lit≤ tt)) (lit< tt)
         (one-declares shortBody (stored-length .first) (lit≤ tt)) (one-declares longBody (stored-length .second) (lit≤ tt)) lengths-long
         (omega (arith, stored-length .three-apart))
+
+-- ---- four bits of what a feed finds
+
+abbrev envelopeFour : Envelope
+envelopeFour = envelopeOf 8 376 (Crc 0x6E8DEA63)
+
+finds-zeros : FoundSomewhere zeros
+finds-zeros = found-somewhere zeros envelopeFour (four-bits .short) reads-zeros bytes-zeros
+
+finds-four : FoundSomewhere fourSet
+finds-four = found-somewhere fourSet envelopeFour (four-bits .short) reads-four bytes-four
+
+pub feed-four-bits-before-the-field-pass : FeedBitsBeforeField 4 → ⊥
+feed-four-bits-before-the-field-pass law =
+    law zeros fourSet finds-zeros finds-four refl (four-bits .first) (four-bits .second) (four-bits .same-field)
+    (omega (arith, apart-before)) (omega (arith, apart-before))
+
+pub feed-four-bits-pass : FeedBits 4 → ⊥
+feed-four-bits-pass law =
+    zeros-are-not-four (law zeros fourSet finds-zeros finds-four refl (four-bits .first) (four-bits .second) (omega (arith, four-bits .four-apart)))
 
 -- ---- no window left out: two bytes before the field and two in it
 
