@@ -3,11 +3,12 @@
 die() { printf '%s: %s\n' "$tool" "$*" >&2; exit 2; }
 
 # due PROGRAM CRATE..: whether the program is missing, or a file of these crates is newer. `.` stands for all crates.
+# What a program reads and what it must print are no part of it, so a new case builds nothing.
 due() {
     built=$root/target/bin/$1
     shift
     [ -x "$built" ] || return 0
-    [ -n "$(cd "$root/crates" && find "$@" ../crates.txt -newer "$built" | head -n 1)" ]
+    [ -n "$(cd "$root/crates" && find "$@" ../crates.txt -type f ! -name stdin ! -name stdout -newer "$built" | head -n 1)" ]
 }
 
 # build PROGRAM: proves it and all that it rests on. It counts as built when that began, so a file changed meanwhile is seen.
