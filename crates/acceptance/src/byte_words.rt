@@ -1,206 +1,163 @@
 // BYTES: words that each add bytes to a lent buffer, in one of four forms.
-// Rests on `cursor`.
-use crate::cursor::Cursor;
-use crate::cursor::Decimal;
-use crate::cursor::between;
-use crate::cursor::decimal_of;
-use crate::cursor::expected;
-use crate::cursor::failed;
-use crate::cursor::moved;
-use crate::cursor::past_spaces;
-use crate::cursor::place_of;
-use crate::cursor::told_at;
-use crate::cursor::word_end;
-use crate::printing::digits;
-use crate::printing::text;
+// Rests on `words` and `reader`.
+use crate::printing::slot;
+use crate::reader::BEGUN;
+use crate::reader::END;
+use crate::reader::LEFT;
+use crate::reader::MOST;
+use crate::reader::most_of;
+use crate::words::Decimal;
+use crate::words::HEX;
+use crate::words::LONGEST;
+use crate::words::NO_NUMBER;
+use crate::words::PRINTABLE;
+use crate::words::all;
+use crate::words::between;
+use crate::words::bounded;
+use crate::words::byte_at;
+use crate::words::decimal_of;
+use crate::words::judged;
+use crate::words::place_of;
 use check::same;
+use std::num::wrapping_sub_u64;
 
-// A prime, so that the pattern meets no power of two.
-const PATTERN: u64 = 251;
+// The forms of a word. COPY and RECORD are for bytes that are no word: as they are, and as a record of the file.
+pub const COPY: u8 = 0;
 
-// How many there are now, and where the line goes on.
-pub struct Taken {
-    pub count: usize,
-    pub cursor: Cursor,
-}
+pub const RECORD: u8 = 1;
 
-// What a word adds: so many there are now, or it has none of the forms, or it adds too many.
-pub enum Growth {
-    Now(usize),
-    Unfit,
-    TooMany,
-}
+const QUOTED: u8 = 2;
 
-// The words up to the end of the line.
-pub fn bytes_to_end(line: &[u8], cursor: Cursor, most: usize, into: &mut [u8]) -> Taken {
-    bytes(line, cursor, b"", most, into)
-}
+const PAIRS: u8 = 3;
 
-// The words up to the one that must follow. None is empty, so none stops at the empty one.
-pub fn bytes(line: &[u8], cursor: Cursor, stop: &[u8], most: usize, into: &mut [u8]) -> Taken {
-    let mut count = 0;
-    let mut at = cursor.at;
-    let mut turns = line.len();
-    while turns > 0 {
-        let from = past_spaces(line, at);
-        let to = word_end(line, from);
-        if cursor.failed || line.len() <= from || same(between(line, from, to), stop) {
-            return Taken {
-                count,
-                cursor: moved(cursor, at),
-            };
-        }
-        match added(between(line, from, to), count, most, into) {
-            Growth::Now(now) => {
-                count = now;
-            }
-            Growth::Unfit => {
-                return Taken {
-                    count,
-                    cursor: not_bytes(cursor, from),
-                };
-            }
-            Growth::TooMany => {
-                return Taken {
-                    count,
-                    cursor: too_many(cursor, from, most, b" bytes"),
-                };
-            }
-        }
-        at = to;
-        turns -= 1;
-    }
-    Taken {
-        count,
-        cursor: moved(cursor, at),
-    }
-}
+const REPEATED: u8 = 4;
 
-fn not_bytes(cursor: Cursor, place: usize) -> Cursor {
-    told_at(cursor.line, place);
-    text(b"bytes");
-    expected();
-    failed(cursor)
-}
+const PATTERN: u8 = 5;
 
-pub fn too_many(cursor: Cursor, place: usize, most: usize, what: &[u8]) -> Cursor {
-    told_at(cursor.line, place);
-    text(b"at most ");
-    digits(most as u64);
-    text(what);
-    expected();
-    failed(cursor)
+const UNFIT: u8 = 6;
+
+const NEXT: u8 = 7;
+
+// Adds what a word says, if it fits. The word that must follow is left, and so is the end of the line.
+pub fn byte_word(word: &[u8], token: &[u8], numbers: &mut [u64; 16], into: &mut [u8; MOST]) -> u8 {
+    let form = form_of(word, token);
+    let count = count_of(word, form, left(token, numbers));
+    let end = fill(
+        word,
+        form,
+        count.value as usize,
+        numbers[END] as usize,
+        into,
+    );
+    numbers[END] = end as u64;
+    numbers[slot(byte_at(token, 1))] = end as u64;
+    count.verdict
 }
 
 // How many more there may be.
-pub fn left(count: usize, most: usize) -> usize {
-    if count < most {
-        return most - count;
-    }
-    0
+fn left(token: &[u8], numbers: &[u64; 16]) -> u64 {
+    wrapping_sub_u64(
+        most_of(token, numbers),
+        wrapping_sub_u64(numbers[END], numbers[BEGUN]),
+    )
 }
 
-fn added(word: &[u8], count: usize, most: usize, into: &mut [u8]) -> Growth {
-    if word.len() > 0 && word[0] == b'\'' {
-        return quoted(word, count, most, into);
-    }
+// Whether a word is not for this token: it is the one that must follow, or there is none.
+pub fn is_next(word: &[u8], token: &[u8]) -> bool {
+    word.len() == 0 || same(word, between(token, 4, token.len()))
+}
+
+fn form_of(word: &[u8], token: &[u8]) -> u8 {
     let star = place_of(word, 0, b'*');
+    if is_next(word, token) {
+        return NEXT;
+    }
+    if byte_at(word, 0) == b'\'' {
+        return if_so(is_quoted(word), QUOTED);
+    }
     if star < word.len() {
-        return repeated(
-            between(word, 0, star),
-            between(word, star + 1, word.len()),
-            count,
-            most,
-            into,
-        );
+        return repeated_form(between(word, 0, star));
     }
-    pairs(word, count, most, into)
+    if_so(word.len() % 2 == 0 && all(word, HEX), PAIRS)
 }
 
-// ---- the four forms
+fn repeated_form(what: &[u8]) -> u8 {
+    if same(what, b"pattern") {
+        return PATTERN;
+    }
+    if_so(what.len() == 2 && all(what, HEX), REPEATED)
+}
 
-fn quoted(word: &[u8], count: usize, most: usize, into: &mut [u8]) -> Growth {
+fn if_so(fits: bool, form: u8) -> u8 {
+    if fits {
+        return form;
+    }
+    UNFIT
+}
+
+fn is_quoted(word: &[u8]) -> bool {
     if word.len() < 2 {
-        return Growth::Unfit;
+        return false;
     }
-    let inside = between(word, 1, word.len() - 1);
-    if word[word.len() - 1] != b'\'' || !all_printable(inside) {
-        return Growth::Unfit;
-    }
-    if left(count, most) < inside.len() {
-        return Growth::TooMany;
-    }
-    Growth::Now(push_all(inside, count, into))
+    let last = word.len() - 1;
+    word[last] == b'\'' && (last == 1 || all(between(word, 1, last), PRINTABLE))
 }
 
-fn all_printable(word: &[u8]) -> bool {
+// How many bytes a word of this form adds, of at most so many; none where it does not fit.
+fn count_of(word: &[u8], form: u8, most: u64) -> Decimal {
+    match form {
+        NEXT => judged(0, LEFT),
+        UNFIT => judged(0, NO_NUMBER),
+        QUOTED => bounded(wrapping_sub_u64(word.len() as u64, 2), most),
+        PAIRS => bounded((word.len() / 2) as u64, most),
+        _ => decimal_of(between(word, place_of(word, 0, b'*') + 1, word.len()), most),
+    }
+}
+
+// ---- into the buffer, from a place on: the next place
+
+pub fn fill(word: &[u8], form: u8, times: usize, from: usize, into: &mut [u8]) -> usize {
+    let mut at = from;
     let mut i = 0;
-    while i < word.len() {
-        if !is_printable(word[i]) {
-            return false;
-        }
+    while i < times {
+        at = push(made(word, form, i), at, into);
         i += 1;
     }
-    true
+    at
 }
 
-fn is_printable(byte: u8) -> bool {
-    b' ' < byte && byte <= b'~' && byte != b'\''
+fn push(byte: u8, at: usize, into: &mut [u8]) -> usize {
+    if at < into.len() {
+        into[at] = byte;
+        return at + 1;
+    }
+    at
 }
 
-fn repeated(what: &[u8], times: &[u8], count: usize, most: usize, into: &mut [u8]) -> Growth {
-    let pattern = same(what, b"pattern");
-    if !pattern && !(what.len() == 2 && all_hex(what)) {
-        return Growth::Unfit;
-    }
-    match decimal_of(times, left(count, most) as u64) {
-        Decimal::NotDigits => Growth::Unfit,
-        Decimal::TooLarge => Growth::TooMany,
-        Decimal::Number(n) => {
-            if pattern {
-                return Growth::Now(push_pattern(n, count, into));
-            }
-            Growth::Now(push_same(pair_at(what, 0), n, count, into))
-        }
+// Byte i of what a word of this form says. The pattern's length is a prime, so that it meets no power of two.
+fn made(word: &[u8], form: u8, i: usize) -> u8 {
+    match form {
+        RECORD => record_byte(word, i),
+        QUOTED => byte_at(word, i % LONGEST + 1),
+        PAIRS => pair(word, i % LONGEST * 2),
+        REPEATED => pair(word, 0),
+        PATTERN => (i % 251) as u8,
+        _ => byte_at(word, i),
     }
 }
 
-fn pairs(word: &[u8], count: usize, most: usize, into: &mut [u8]) -> Growth {
-    if word.len() % 2 != 0 || !all_hex(word) {
-        return Growth::Unfit;
+// The stored length, the message, and zeros.
+fn record_byte(message: &[u8], i: usize) -> u8 {
+    match i {
+        0 => (message.len() / 256 % 256) as u8,
+        1 => (message.len() % 256) as u8,
+        _ => byte_at(message, i - 2),
     }
-    if left(count, most) < word.len() / 2 {
-        return Growth::TooMany;
-    }
-    Growth::Now(push_pairs(word, count, into))
-}
-
-fn all_hex(word: &[u8]) -> bool {
-    let mut i = 0;
-    while i < word.len() {
-        if !is_hex(word[i]) {
-            return false;
-        }
-        i += 1;
-    }
-    true
-}
-
-fn is_hex(byte: u8) -> bool {
-    (b'0' <= byte && byte <= b'9')
-        || (b'a' <= byte && byte <= b'f')
-        || (b'A' <= byte && byte <= b'F')
 }
 
 // The byte of the two hex digits at a place.
-fn pair_at(word: &[u8], place: usize) -> u8 {
-    if word.len() < 2 {
-        return 0;
-    }
-    if word.len() - 2 < place {
-        return 0;
-    }
-    hex_value(word[place]) % 16 * 16 + hex_value(word[place + 1]) % 16
+fn pair(word: &[u8], place: usize) -> u8 {
+    hex_value(byte_at(word, place)) % 16 * 16 + hex_value(byte_at(word, place % LONGEST + 1)) % 16
 }
 
 // A letter's last four bits are 1 to 6.
@@ -209,54 +166,4 @@ fn hex_value(byte: u8) -> u8 {
         return byte % 16;
     }
     byte % 16 + 9
-}
-
-// ---- into the buffer, from a place on: the next place
-
-pub fn push(byte: u8, at: usize, into: &mut [u8]) -> usize {
-    if at < into.len() {
-        into[at] = byte;
-        return at + 1;
-    }
-    at
-}
-
-pub fn push_all(word: &[u8], count: usize, into: &mut [u8]) -> usize {
-    let mut at = count;
-    let mut i = 0;
-    while i < word.len() {
-        at = push(word[i], at, into);
-        i += 1;
-    }
-    at
-}
-
-fn push_pairs(word: &[u8], count: usize, into: &mut [u8]) -> usize {
-    let mut at = count;
-    let mut i = 0;
-    while i < word.len() / 2 {
-        at = push(pair_at(word, 2 * i), at, into);
-        i += 1;
-    }
-    at
-}
-
-pub fn push_same(byte: u8, times: u64, count: usize, into: &mut [u8]) -> usize {
-    let mut at = count;
-    let mut i = 0;
-    while i < times {
-        at = push(byte, at, into);
-        i += 1;
-    }
-    at
-}
-
-fn push_pattern(times: u64, count: usize, into: &mut [u8]) -> usize {
-    let mut at = count;
-    let mut i = 0;
-    while i < times {
-        at = push((i % PATTERN) as u8, at, into);
-        i += 1;
-    }
-    at
 }

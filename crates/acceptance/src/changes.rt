@@ -1,259 +1,137 @@
 // The byte editor at work, and bits that flip: a message of the file is changed and changed back, and the file is checked in between.
-// A change of the bits that declare the kind is left out, since it makes another message.
-ghost use Prim.Native.Nat.{_≤_};
-use crate::cursor::Cursor;
-use crate::cursor::end;
-use crate::cursor::named;
-use crate::file_lines::MOST_MESSAGE;
-use crate::printing::counted;
-use crate::printing::end_line;
-use crate::printing::refused;
-use crate::printing::text;
-use crate::widths::LARGEST;
-use envelope::Envelope;
-use envelope::Part;
-use golden::Checking;
-use golden::Reached;
-use golden::check;
-use golden::step;
+// Rests on the crate `exports`.
+use crate::file_lines::FILE_ROOM;
+use crate::golden_lines::step;
+use crate::words::between;
+use crate::words::byte_at;
+use exports::goldens::morlewen_check;
+use std::num::wrapping_add_u64;
+use std::num::wrapping_add_usize;
 
-// The pairs of masks that `edited` knows.
-const MASKS: usize = 6;
+// The rows of the table that change the file.
+const EDITS: u8 = b'0';
 
-// What is added to two bytes of a message, by exclusive or; their places are counted from its first.
-struct Change {
-    first: usize,
-    mask: u8,
-    second: usize,
-    other: u8,
+const FLIPS: u8 = b'1';
+
+// The most bytes of a record's message.
+const MOST_MESSAGE: usize = 510;
+
+// Where a message has its flags.
+const FLAGS: usize = 4;
+
+// More than a message has bits.
+const BITS: usize = 4_096;
+
+// Tries each change of a series, and counts those made, and those after which check refuses the file.
+pub fn series(code: u8, file: &mut [u8; FILE_ROOM], used: usize, numbers: &mut [u64; 16]) -> u64 {
+    let word = step(between(file, 0, used), numbers[0] as usize, numbers);
+    let place = numbers[0] as usize;
+    numbers[0] = 0;
+    numbers[1] = 0;
+    numbers[2] = used as u64;
+    try_all(
+        code,
+        place,
+        tries_of(code, word / 0x1_0000_0000),
+        file,
+        numbers,
+    );
+    word
 }
 
-// The changes made, and those after which check refuses the file.
-struct Tally {
-    made: u64,
-    refused: u64,
-}
-
-pub enum Series {
-    Edits,
-    Flips,
-    Pairs,
-}
-
-pub fn series_line(line: &[u8], head: &[u8], cursor: Cursor, series: Series, file: &mut [u8]) {
-    let record = named(line, cursor, b"record", LARGEST);
-    if end(line, record.cursor).failed {
-        return;
-    }
-    text(head);
-    let stepping = step(file, record.value as usize);
-    let answer = stepping.answer;
-    shown(series, answer, file);
-    end_line();
-}
-
-fn shown(series: Series, answer: Reached, file: &mut [u8]) {
-    match answer {
-        Reached::Message(message) => {
-            let tally = tried(series, message, file);
-            return told(series, tally);
-        }
-        _ => {}
-    }
-    text(b" no message");
-}
-
-fn tried(series: Series, message: Part, file: &mut [u8]) -> Tally {
-    match series {
-        Series::Edits => edits(message, file),
-        Series::Flips => flips(message, file),
-        Series::Pairs => pairs(message, file),
+fn tries_of(code: u8, size: u64) -> usize {
+    let bytes = (size % 511) as usize;
+    match code {
+        EDITS => 6 * bytes,
+        FLIPS => 8 * bytes,
+        _ => BITS * 8 * bytes,
     }
 }
 
-fn told(series: Series, tally: Tally) {
-    match series {
-        Series::Edits => counted(b" edited", tally.made),
-        _ => counted(b" flipped", tally.made),
-    }
-    refused(tally.refused);
-}
-
-// The message's size: a record's message has no more than this, and the remainder tells the checker so.
-fn size_of(message: Part) -> usize
-    ensures { λ r. ⌜ r ≤ 510 ⌝ }
-{
-    message.size % (MOST_MESSAGE + 1)
-}
-
-fn edits(message: Part, file: &mut [u8]) -> Tally {
-    let tries = MASKS * size_of(message);
-    let mut tally = none();
+fn try_all(
+    code: u8,
+    place: usize,
+    tries: usize,
+    file: &mut [u8; FILE_ROOM],
+    numbers: &mut [u64; 16],
+) {
     let mut n = 0;
     while n < tries {
-        tally = plus(tally, made(edited(n / MASKS, n % MASKS), message, file));
+        tried(first(code, n), second(code, n), place, file, numbers);
         n += 1;
     }
-    tally
 }
 
-fn flips(message: Part, file: &mut [u8]) -> Tally {
-    let bits = 8 * size_of(message);
-    let mut tally = none();
-    let mut bit = 0;
-    while bit < bits {
-        tally = plus(tally, made(flipped(bit, bit), message, file));
-        bit += 1;
-    }
-    tally
+// ---- a change is two touches: each has the place of a byte, times 256, and a mask that is added to it by exclusive or
+
+fn touch(place: usize, mask: u8) -> usize {
+    place % 1_024 * 256 + mask as usize
 }
 
-fn pairs(message: Part, file: &mut [u8]) -> Tally {
-    let bits = 8 * size_of(message);
-    let mut tally = none();
-    let mut bit = 0;
-    while bit < bits {
-        tally = plus(tally, pairs_with(bit, message, file));
-        bit += 1;
-    }
-    tally
+fn bit(n: usize) -> usize {
+    touch(n / 8, 1 << (n % 8))
 }
 
-// A bit with each one before it.
-fn pairs_with(bit: usize, message: Part, file: &mut [u8]) -> Tally {
-    let mut tally = none();
-    let mut first = 0;
-    while first < bit {
-        tally = plus(tally, made(flipped(first, bit), message, file));
-        first += 1;
-    }
-    tally
-}
-
-// A byte and the next, by the masks of this number.
-fn edited(place: usize, masks: usize) -> Change {
-    match masks {
-        0 => neighbours(place, 0x01, 0x00),
-        1 => neighbours(place, 0x00, 0x80),
-        2 => neighbours(place, 0xFF, 0xFF),
-        3 => neighbours(place, 0x55, 0xAA),
-        4 => neighbours(place, 0x10, 0x01),
-        _ => neighbours(place, 0x80, 0x01),
+fn first(code: u8, n: usize) -> usize {
+    match code {
+        EDITS => touch(n / 6, byte_at(b"\x01\x00\xff\x55\x10\x80", n % 6)),
+        FLIPS => bit(n),
+        _ => bit(n / BITS),
     }
 }
 
-fn neighbours(place: usize, mask: u8, other: u8) -> Change {
-    Change {
-        first: place,
-        mask,
-        second: after(place),
-        other,
-    }
-}
-
-fn after(place: usize) -> usize {
-    if place < MOST_MESSAGE {
-        return place + 1;
-    }
-    place
-}
-
-// Two bits of a message, or one that is given twice.
-fn flipped(first: usize, second: usize) -> Change {
-    let mut other = 0;
-    if first != second {
-        other = bit_mask(second % 8);
-    }
-    Change {
-        first: first / 8,
-        mask: bit_mask(first % 8),
-        second: second / 8,
-        other,
-    }
-}
-
-fn bit_mask(bit: usize) -> u8 {
-    match bit {
-        0 => 0x01,
-        1 => 0x02,
-        2 => 0x04,
-        3 => 0x08,
-        4 => 0x10,
-        5 => 0x20,
-        6 => 0x40,
-        _ => 0x80,
-    }
-}
-
-// ---- one change
-
-fn made(change: Change, message: Part, file: &mut [u8]) -> Tally {
-    if MOST_MESSAGE <= change.second
-        || declares_kind(change.first, change.mask)
-        || declares_kind(change.second, change.other)
-    {
-        return none();
-    }
-    apply(change, message, file);
-    let refused = refuses(file);
-    apply(change, message, file);
-    if refused {
-        return Tally {
-            made: 1,
-            refused: 1,
-        };
-    }
-    Tally {
-        made: 1,
-        refused: 0,
-    }
-}
-
-fn declares_kind(place: usize, mask: u8) -> bool {
-    place == Envelope::FLAGS_PLACE && mask / 8 % 4 != 0
-}
-
-fn apply(change: Change, message: Part, file: &mut [u8]) {
-    add_mask(change.first, change.mask, message, file);
-    add_mask(change.second, change.other, message, file);
-}
-
-fn add_mask(place: usize, mask: u8, message: Part, file: &mut [u8]) {
-    let start = message.place;
-    if start < file.len() {
-        if place < file.len() - start {
-            file[start + place] = file[start + place] ^ mask;
+// A bit is paired with those before it; other pairs lie past the record.
+fn second(code: u8, n: usize) -> usize {
+    match code {
+        EDITS => touch(n / 6 + 1, byte_at(b"\x00\x80\xff\xaa\x01\x01", n % 6)),
+        FLIPS => 0,
+        _ => {
+            if n / BITS <= n % BITS {
+                return touch(MOST_MESSAGE, 0);
+            }
+            bit(n % BITS)
         }
     }
 }
 
-fn refuses(file: &[u8]) -> bool {
-    match check(file) {
-        Checking::Count(_) => false,
-        _ => true,
+fn tried(
+    first: usize,
+    second: usize,
+    place: usize,
+    file: &mut [u8; FILE_ROOM],
+    numbers: &mut [u64; 16],
+) {
+    if left_out(first) || left_out(second) {
+        return;
     }
+    make(first, second, place, file);
+    let word = morlewen_check(between(file, 0, numbers[2] as usize));
+    make(first, second, place, file);
+    numbers[0] = wrapping_add_u64(numbers[0], 1);
+    numbers[1] = wrapping_add_u64(numbers[1], (word % 256 > 0) as u64);
 }
 
-// ---- counting
-
-fn none() -> Tally {
-    Tally {
-        made: 0,
-        refused: 0,
-    }
+// Past the record, or a change of the bits that declare the kind, which makes another message.
+fn left_out(touch: usize) -> bool {
+    let place = touch / 256;
+    MOST_MESSAGE <= place || (place == FLAGS && touch / 8 % 4 != 0)
 }
 
-fn plus(tally: Tally, more: Tally) -> Tally {
-    Tally {
-        made: sum_of(tally.made, more.made),
-        refused: sum_of(tally.refused, more.refused),
-    }
+fn make(first: usize, second: usize, place: usize, file: &mut [u8; FILE_ROOM]) {
+    add(
+        wrapping_add_usize(place, first / 256),
+        (first % 256) as u8,
+        file,
+    );
+    add(
+        wrapping_add_usize(place, second / 256),
+        (second % 256) as u8,
+        file,
+    );
 }
 
-// No count comes near the end of its type.
-fn sum_of(a: u64, b: u64) -> u64 {
-    if LARGEST - a < b {
-        return LARGEST;
+fn add(place: usize, mask: u8, file: &mut [u8; FILE_ROOM]) {
+    if place < FILE_ROOM {
+        file[place] = file[place] ^ mask;
     }
-    a + b
 }

@@ -1,414 +1,172 @@
-// The commands about sums, messages, QoS, lateness and sequence.
-// Every number printed was worked out by a proved function of `sum` or `envelope`.
-use crate::byte_words::bytes;
-use crate::byte_words::bytes_to_end;
-use crate::cursor::Counted;
-use crate::cursor::Cursor;
-use crate::cursor::between;
-use crate::cursor::end;
-use crate::cursor::is_next;
-use crate::cursor::named;
-use crate::cursor::number;
-use crate::cursor::past_word;
-use crate::cursor::word;
+// The commands about sums, messages, QoS, lateness and sequence: each is one call of the library, and its answer is told by the row's template.
+// Rests on the crate `exports`.
 use crate::lent::BLANK;
 use crate::lent::ROOM;
 use crate::lent::front;
-use crate::printing;
-use crate::printing::counted;
-use crate::printing::end_line;
-use crate::printing::hex_word;
-use crate::printing::refused;
-use crate::printing::text;
-use crate::readings::reading;
-use crate::widths::LARGEST;
-use crate::widths::LARGEST_BYTE;
-use crate::widths::LARGEST_FOUR;
-use crate::widths::LARGEST_TWO;
-use crate::widths::four;
-use crate::widths::one;
-use crate::widths::two;
-use envelope::Addressing;
-use envelope::Envelope;
-use envelope::Header;
-use envelope::Integrity;
-use envelope::Part;
-use envelope::Refusal;
-use envelope::Rewriting;
-use envelope::Routing;
-use envelope::WriteFault;
-use envelope::Writing;
-use envelope::lateness;
-use envelope::lateness::Lateness;
-use envelope::qos;
-use envelope::qos::Joining;
-use envelope::qos::Qos;
-use envelope::rewrite;
-use envelope::sequence;
-use envelope::sequence::Sequence;
-use envelope::write;
+use crate::printing::say;
+use crate::words::between;
+use exports::envelopes::morlewen_read;
+use exports::envelopes::morlewen_rewrite;
+use exports::envelopes::morlewen_write;
+use exports::goldens::morlewen_make;
+use exports::qos::morlewen_qos_join;
+use exports::qos::morlewen_qos_split;
+use exports::sums::morlewen_crc;
+use exports::timing::morlewen_lateness;
+use exports::timing::morlewen_sequence;
 
-// The most bytes of an address or a body that is written.
-const MOST_WRITTEN: usize = 600;
+// Where the numbers have the room of the lent buffer.
+const LENT: usize = 11;
 
-// The most bytes of any other argument.
-pub const MOST: usize = 300_000;
-
-pub fn sum_line(line: &[u8], head: &[u8], cursor: Cursor, room: &mut [u8]) {
-    let taken = bytes_to_end(line, cursor, MOST, room);
-    if taken.cursor.failed {
-        return;
-    }
-    let summed = between(room, 0, taken.count);
-    text(head);
-    printing::number(summed.len() as u64);
-    hex_word(sum::crc(summed));
-    end_line();
-}
-
-pub fn read_line(line: &[u8], head: &[u8], cursor: Cursor, room: &mut [u8]) {
-    let taken = bytes_to_end(line, cursor, MOST, room);
-    if taken.cursor.failed {
-        return;
-    }
-    text(head);
-    reading(between(room, 0, taken.count));
-    end_line();
-}
-
-// ---- writing
-
-struct Headed {
-    header: Header,
-    cursor: Cursor,
-}
-
-struct Routed {
-    routing: Routing,
-    cursor: Cursor,
-}
-
-pub fn write_line(line: &[u8], head: &[u8], cursor: Cursor) {
-    let headed = header(line, cursor);
-    let routed = routing(line, headed.cursor);
-    let route = routed.routing;
-    let mut room = [0u8; MOST_WRITTEN];
-    let source = bytes(
-        line,
-        word(line, routed.cursor, b"source"),
-        b"destination",
-        MOST_WRITTEN,
-        &mut room,
-    );
-    write_to(
-        line,
-        head,
-        source.cursor,
-        headed.header,
-        route,
-        between(&room, 0, source.count),
-    );
-}
-
-fn write_to(
-    line: &[u8],
-    head: &[u8],
-    cursor: Cursor,
-    header: Header,
-    route: Routing,
-    source: &[u8],
-) {
-    let mut room = [0u8; MOST_WRITTEN];
-    let destination = bytes(
-        line,
-        word(line, cursor, b"destination"),
-        b"body",
-        MOST_WRITTEN,
-        &mut room,
-    );
-    write_body(
-        line,
-        head,
-        destination.cursor,
-        header,
-        route,
-        source,
-        between(&room, 0, destination.count),
-    );
-}
-
-fn write_body(
-    line: &[u8],
-    head: &[u8],
-    cursor: Cursor,
-    header: Header,
-    route: Routing,
-    source: &[u8],
-    destination: &[u8],
-) {
-    let mut room = [0u8; MOST_WRITTEN];
-    let body = bytes(
-        line,
-        word(line, cursor, b"body"),
-        b"integrity",
-        MOST_WRITTEN,
-        &mut room,
-    );
-    let integrity = named(line, body.cursor, b"integrity", LARGEST_FOUR);
-    let lent = lent_room(line, integrity.cursor);
-    if end(line, lent.cursor).failed {
-        return;
-    }
-    text(head);
-    written(
-        header,
-        route,
-        source,
-        destination,
-        between(&room, 0, body.count),
-        four(integrity.value),
-        lent.value,
-    );
-}
-
-fn header(line: &[u8], cursor: Cursor) -> Headed {
-    let message_type = named(line, cursor, b"type", LARGEST_TWO);
-    let version = named(line, message_type.cursor, b"version", LARGEST_BYTE);
-    let flags = named(line, version.cursor, b"flags", LARGEST_BYTE);
-    let message_number = named(line, flags.cursor, b"number", LARGEST_FOUR);
-    let time = named(line, message_number.cursor, b"time", LARGEST_FOUR);
-    let header = Header {
-        message_type: two(message_type.value),
-        version: one(version.value),
-        flags: one(flags.value),
-        number: four(message_number.value),
-        time: four(time.value),
-    };
-    let cursor = time.cursor;
-    Headed { header, cursor }
-}
-
-fn unaddressed(line: &[u8], cursor: Cursor) -> bool {
-    is_next(line, cursor, b"unaddressed")
-}
-
-fn routing(line: &[u8], cursor: Cursor) -> Routed {
-    if unaddressed(line, cursor) {
-        return Routed {
-            routing: Routing::Absent,
-            cursor: past_word(line, cursor),
-        };
-    }
-    let ttl = named(line, cursor, b"ttl", LARGEST_TWO);
-    let qos = named(line, ttl.cursor, b"qos", LARGEST_TWO);
-    let routing = Routing::Present {
-        ttl: two(ttl.value),
-        qos: two(qos.value),
-    };
-    let cursor = qos.cursor;
-    Routed { routing, cursor }
-}
-
-fn written(
-    header: Header,
-    routing: Routing,
-    source: &[u8],
-    destination: &[u8],
-    body: &[u8],
-    application: u32,
-    room: u64,
-) {
+pub fn envelope_line(code: u8, template: &[u8], numbers: &mut [u64; 16], message: &[u8]) {
     let mut blank = [BLANK; ROOM];
-    let lent = front(&mut blank, room);
-    match write(
-        header,
-        routing,
+    let room = numbers[LENT] as usize;
+    let word = envelope_answer(code, numbers, message, &mut blank);
+    say(template, word, numbers, message, between(&blank, 0, room));
+}
+
+fn envelope_answer(code: u8, numbers: &mut [u64; 16], message: &[u8], blank: &mut [u8]) -> u64 {
+    let room = numbers[LENT];
+    match code {
+        b's' => summed(message, numbers),
+        b'r' => read(message, numbers),
+        b'q' => qos(numbers),
+        b'l' => late(numbers),
+        b'n' => morlewen_sequence(four(numbers[0]), four(numbers[1])),
+        _ => lent_answer(code, numbers, message, front(blank, room)),
+    }
+}
+
+fn lent_answer(code: u8, numbers: &[u64; 16], message: &[u8], lent: &mut [u8]) -> u64 {
+    match code {
+        b'w' => written(numbers, message, lent),
+        b'a' => morlewen_rewrite(message, lent),
+        _ => morlewen_make(message, lent),
+    }
+}
+
+fn summed(message: &[u8], numbers: &mut [u64; 16]) -> u64 {
+    numbers[1] = morlewen_crc(message) as u64;
+    0
+}
+
+// Of a message that is refused neither addressing nor integrity is told: no template has these kinds.
+fn read(message: &[u8], numbers: &mut [u64; 16]) -> u64 {
+    numbers[5] = 9;
+    numbers[14] = 9;
+    morlewen_read(message, numbers)
+}
+
+struct Given {
+    message_type: u16,
+    version: u8,
+    flags: u8,
+    number: u32,
+    time: u32,
+    addressed: u8,
+    ttl: u16,
+    qos: u16,
+    integrity: u32,
+}
+
+fn given_by(numbers: &[u64; 16]) -> Given {
+    Given {
+        message_type: two(numbers[0]),
+        version: one(numbers[1]),
+        flags: one(numbers[2]),
+        number: four(numbers[3]),
+        time: four(numbers[4]),
+        addressed: one(numbers[5]),
+        ttl: two(numbers[6]),
+        qos: two(numbers[7]),
+        integrity: four(numbers[10]),
+    }
+}
+
+// The source, the destination and the body stand behind each other.
+fn written(numbers: &[u64; 16], bytes: &[u8], lent: &mut [u8]) -> u64 {
+    let source = numbers[8] as usize;
+    let destination = numbers[9] as usize;
+    wrote(
+        given_by(numbers),
+        between(bytes, 0, source),
+        between(bytes, source, destination),
+        between(bytes, destination, bytes.len()),
+        lent,
+    )
+}
+
+fn wrote(given: Given, source: &[u8], destination: &[u8], body: &[u8], lent: &mut [u8]) -> u64 {
+    morlewen_write(
+        given.message_type,
+        given.version,
+        given.flags,
+        given.number,
+        given.time,
+        given.addressed,
+        given.ttl,
+        given.qos,
         source,
         destination,
         body,
-        application,
+        given.integrity,
         lent,
-    ) {
-        Writing::Written(size) => wrote(size),
-        Writing::Refused(fault) => refused(fault.number() as u64),
-    }
-    printing::buffer(lent);
-    end_line();
+    )
 }
 
-fn wrote(size: usize) {
-    counted(b" wrote", size as u64);
-}
-
-pub fn rewrite_line(line: &[u8], head: &[u8], cursor: Cursor, storage: &mut [u8]) {
-    let room = room_of(line, cursor);
-    let taken = bytes_to_end(line, room.cursor, MOST, storage);
-    if taken.cursor.failed {
-        return;
-    }
-    text(head);
-    rewritten(between(storage, 0, taken.count), room.value);
-}
-
-// The room of a buffer, and the word that stands before the message.
-pub fn room_of(line: &[u8], cursor: Cursor) -> Counted {
-    let room = lent_room(line, cursor);
-    let rest = word(line, room.cursor, b"of");
-    Counted {
-        value: room.value,
-        cursor: rest,
+fn qos(numbers: &mut [u64; 16]) -> u64 {
+    match numbers[5] {
+        0 => joined(numbers),
+        _ => split(numbers),
     }
 }
 
-fn lent_room(line: &[u8], cursor: Cursor) -> Counted {
-    named(line, cursor, b"room", ROOM as u64)
+fn joined(numbers: &[u64; 16]) -> u64 {
+    morlewen_qos_join(
+        one(numbers[0]),
+        one(numbers[1]),
+        one(numbers[2]),
+        one(numbers[3]),
+        one(numbers[4]),
+    )
 }
 
-fn rewritten(message: &[u8], room: u64) {
-    let mut blank = [BLANK; ROOM];
-    let lent = front(&mut blank, room);
-    match rewrite(message, lent) {
-        Rewriting::Written(size) => wrote(size),
-        Rewriting::Unread(refusal) => counted(b" unread", number_of(refusal)),
-        Rewriting::NoRoom => refused(WriteFault::NoRoom.number() as u64),
-    }
-    printing::buffer(lent);
-    end_line();
+// The first of the five is told as the value of a word.
+fn split(numbers: &mut [u64; 16]) -> u64 {
+    let mut parts = [0u8; 5];
+    morlewen_qos_split(two(numbers[0]), &mut parts);
+    numbers[0] = wide(parts[1]);
+    numbers[1] = wide(parts[2]);
+    numbers[2] = wide(parts[3]);
+    numbers[3] = wide(parts[4]);
+    wide(parts[0]) % 8 * 0x1_0000_0000
 }
 
-pub fn number_of(refusal: Refusal) -> u64 {
-    let fault = refusal.fault;
-    fault.number() as u64
+fn late(numbers: &[u64; 16]) -> u64 {
+    let kind = morlewen_lateness(
+        one(numbers[2]),
+        four(numbers[4]),
+        one(numbers[5]),
+        two(numbers[6]),
+        numbers[7],
+    );
+    kind as u64 * 0x1_0000
 }
 
-// ---- QoS
-
-pub fn qos_line(line: &[u8], head: &[u8], cursor: Cursor) {
-    if is_next(line, cursor, b"join") {
-        return join_line(line, head, past_word(line, cursor));
-    }
-    let field = named(line, cursor, b"split", LARGEST_TWO);
-    if end(line, field.cursor).failed {
-        return;
-    }
-    text(head);
-    split(qos::split(two(field.value)));
-    end_line();
+fn wide(n: u8) -> u64 {
+    n as u64
 }
 
-fn split(parts: Qos) {
-    printing::number(parts.service_request as u64);
-    printing::number(parts.special_handling as u64);
-    printing::number(parts.network_preference as u64);
-    printing::number(parts.priority as u64);
-    printing::number(parts.class as u64);
+// ---- numbers that were held to their width when they were read: the remainder is the number itself, and tells the checker that nothing is lost
+
+fn one(n: u64) -> u8 {
+    (n % 0x100) as u8
 }
 
-fn join_line(line: &[u8], head: &[u8], cursor: Cursor) {
-    let service = number(line, cursor, LARGEST_BYTE);
-    let handling = number(line, service.cursor, LARGEST_BYTE);
-    let network = number(line, handling.cursor, LARGEST_BYTE);
-    let priority = number(line, network.cursor, LARGEST_BYTE);
-    let class = number(line, priority.cursor, LARGEST_BYTE);
-    if end(line, class.cursor).failed {
-        return;
-    }
-    text(head);
-    joined(qos::join(Qos {
-        service_request: one(service.value),
-        special_handling: one(handling.value),
-        network_preference: one(network.value),
-        priority: one(priority.value),
-        class: one(class.value),
-    }));
-    end_line();
+pub fn two(n: u64) -> u16 {
+    (n % 0x1_0000) as u16
 }
 
-fn joined(answer: Joining) {
-    match answer {
-        Joining::Joined(field) => printing::number(field as u64),
-        Joining::DoesNotFit => refused(41),
-    }
-}
-
-// ---- time and sequence
-
-pub fn late_line(line: &[u8], head: &[u8], cursor: Cursor) {
-    let flags = named(line, cursor, b"flags", LARGEST_BYTE);
-    let time = named(line, flags.cursor, b"time", LARGEST_FOUR);
-    let lived = life(line, time.cursor);
-    let addressing = lived.addressing;
-    let clock = named(line, lived.cursor, b"clock", LARGEST);
-    if end(line, clock.cursor).failed {
-        return;
-    }
-    text(head);
-    let header = Header {
-        message_type: 0,
-        version: 0,
-        flags: one(flags.value),
-        number: 0,
-        time: four(time.value),
-    };
-    lateness_of(lateness::judge(sent(header, addressing), clock.value));
-    end_line();
-}
-
-struct Lived {
-    addressing: Addressing,
-    cursor: Cursor,
-}
-
-fn life(line: &[u8], cursor: Cursor) -> Lived {
-    if unaddressed(line, cursor) {
-        return Lived {
-            addressing: Addressing::Absent,
-            cursor: past_word(line, cursor),
-        };
-    }
-    let ttl = named(line, cursor, b"ttl", LARGEST_TWO);
-    let addressing = Addressing::Present {
-        ttl: two(ttl.value),
-        qos: 0,
-        source: nothing(),
-        destination: nothing(),
-    };
-    let cursor = ttl.cursor;
-    Lived { addressing, cursor }
-}
-
-fn nothing() -> Part {
-    Part { place: 0, size: 0 }
-}
-
-fn sent(header: Header, addressing: Addressing) -> Envelope {
-    Envelope::new(header, addressing, nothing(), Integrity::None)
-}
-
-fn lateness_of(answer: Lateness) {
-    match answer {
-        Lateness::Late => text(b" late"),
-        Lateness::InTime => text(b" in time"),
-        Lateness::NoClock => text(b" no clock"),
-    }
-}
-
-pub fn sequence_line(line: &[u8], head: &[u8], cursor: Cursor) {
-    let old = named(line, cursor, b"from", LARGEST_FOUR);
-    let new = named(line, old.cursor, b"to", LARGEST_FOUR);
-    if end(line, new.cursor).failed {
-        return;
-    }
-    text(head);
-    sequence_of(sequence::judge(four(old.value), four(new.value)));
-    end_line();
-}
-
-fn sequence_of(answer: Sequence) {
-    match answer {
-        Sequence::Repeat => text(b" repeat"),
-        Sequence::Next => text(b" next"),
-        Sequence::Ahead(steps) => counted(b" ahead", steps as u64),
-        Sequence::Behind(steps) => counted(b" behind", steps as u64),
-    }
+pub fn four(n: u64) -> u32 {
+    (n % 0x1_0000_0000) as u32
 }

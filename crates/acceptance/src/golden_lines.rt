@@ -1,213 +1,138 @@
-// The commands about the golden file that is worked on.
-// Every number printed was worked out by a proved function of `golden`.
-use crate::byte_words::bytes_to_end;
-use crate::cursor::Cursor;
-use crate::cursor::between;
-use crate::cursor::end;
-use crate::cursor::named;
-use crate::cursor::word;
-use crate::envelope_lines::MOST;
-use crate::envelope_lines::number_of;
-use crate::envelope_lines::room_of;
-use crate::lent::BLANK;
-use crate::lent::ROOM;
-use crate::lent::front;
+// The commands about the golden file that is worked on: each is one call of the library, or one for each record.
+// Rests on the crate `exports`.
+use crate::changes::series;
+use crate::envelope_lines::four;
+use crate::envelope_lines::two;
+use crate::file_lines::FILE_ROOM;
 use crate::lent::front_places;
+use crate::list_words::ENTERED;
 use crate::list_words::MOST_ENTRIES;
-use crate::list_words::list;
-use crate::printing::buffer;
-use crate::printing::counted;
-use crate::printing::end_line;
+use crate::printing::kind_of;
 use crate::printing::number;
-use crate::printing::refused;
-use crate::printing::text;
-use crate::widths::LARGEST;
-use crate::widths::LARGEST_FOUR;
-use crate::widths::LARGEST_TWO;
-use crate::widths::four;
-use crate::widths::two;
-use envelope::Refusal;
-use golden::Checking;
-use golden::Comparison;
-use golden::Counting;
-use golden::Entry;
-use golden::Finding;
-use golden::Making;
-use golden::Name;
-use golden::Reached;
-use golden::RecordFault;
-use golden::check;
-use golden::compare;
-use golden::count;
-use golden::entry_at;
-use golden::find;
-use golden::make;
-use golden::step;
+use crate::printing::say;
+use crate::reader::USED;
+use crate::words::between;
+use exports::goldens::morlewen_check;
+use exports::goldens::morlewen_compare;
+use exports::goldens::morlewen_find;
+use exports::goldens::morlewen_line;
+use exports::goldens::morlewen_records;
+use exports::goldens::morlewen_step;
+use std::num::wrapping_add_u64;
 
-pub fn check_line(line: &[u8], head: &[u8], cursor: Cursor, file: &[u8]) {
-    if end(line, cursor).failed {
-        return;
-    }
-    text(head);
-    match check(file) {
-        Checking::Count(records) => counted(b" records", records as u64),
-        Checking::NotAFile => {
-            at_record(0);
-            plainly(21);
-        }
-        Checking::Bad { record, fault } => {
-            at_record(record);
-            bad(fault);
-        }
-    }
-    end_line();
+// Whether there is more to tell, of a walk and of a listing.
+const MORE: usize = 3;
+
+pub fn golden_line(
+    code: u8,
+    template: &[u8],
+    numbers: &mut [u64; 16],
+    message: &[u8],
+    file: &mut [u8; FILE_ROOM],
+    list: &mut [u32; MOST_ENTRIES],
+) {
+    let word = golden_answer(code, template, numbers, message, file, list);
+    say(template, word, numbers, message, message);
+    places(list, numbers[ENTERED]);
 }
 
-pub fn find_line(line: &[u8], head: &[u8], cursor: Cursor, file: &[u8]) {
-    let message_type = named(line, cursor, b"type", LARGEST_TWO);
-    let message_number = named(line, message_type.cursor, b"number", LARGEST_FOUR);
-    if end(line, message_number.cursor).failed {
-        return;
+fn golden_answer(
+    code: u8,
+    template: &[u8],
+    numbers: &mut [u64; 16],
+    message: &[u8],
+    file: &mut [u8; FILE_ROOM],
+    list: &mut [u32; MOST_ENTRIES],
+) -> u64 {
+    let used = numbers[USED] as usize;
+    match code {
+        b'0'..=b'2' => series(code, file, used, numbers),
+        b'D' => compared(numbers, between(file, 0, used), message, list),
+        _ => looked_up(code, template, numbers, between(file, 0, used)),
     }
-    text(head);
-    found(find(
+}
+
+fn compared(numbers: &[u64; 16], file: &[u8], message: &[u8], list: &mut [u32]) -> u64 {
+    morlewen_compare(
         file,
-        Name {
-            message_type: two(message_type.value),
-            number: four(message_number.value),
-        },
-    ));
-    end_line();
+        numbers[0] as usize,
+        message,
+        front_places(list, numbers[ENTERED]),
+    )
 }
 
-fn at_record(record: usize) {
-    counted(b" record", record as u64);
-}
-
-// The answer, and how many records were opened for it.
-fn found(answer: Finding) {
-    let opened = found_or_not(answer);
-    counted(b" opened", opened as u64);
-}
-
-fn found_or_not(answer: Finding) -> usize {
-    match answer {
-        Finding::Found { record, opened } => {
-            at_record(record);
-            opened
-        }
-        Finding::Missing { opened } => {
-            plainly(27);
-            opened
-        }
-        Finding::NotAFile => {
-            plainly(21);
-            0
-        }
-        Finding::Bad { fault, opened } => {
-            bad(fault);
-            opened
-        }
+fn looked_up(code: u8, template: &[u8], numbers: &mut [u64; 16], file: &[u8]) -> u64 {
+    let at = numbers[0] as usize;
+    match code {
+        b'C' => morlewen_check(file),
+        b'F' => morlewen_find(file, two(numbers[0]), four(numbers[1])),
+        b'S' => step(file, at, numbers),
+        b'E' => entry(file, at, numbers),
+        _ => each(code, template, file, numbers),
     }
 }
 
-pub fn step_line(line: &[u8], head: &[u8], cursor: Cursor, file: &[u8]) {
-    let at = named(line, cursor, b"at", LARGEST);
-    if end(line, at.cursor).failed {
-        return;
-    }
-    text(head);
-    let next = step_shown(file, at.value as usize);
-    counted(b" next", next as u64);
-    end_line();
+// The message's place and size, the next record, and whether it is another.
+pub fn step(file: &[u8], at: usize, numbers: &mut [u64; 16]) -> u64 {
+    let mut part = [0u64; 2];
+    let word = morlewen_step(file, at, &mut part);
+    let on = count_of(word);
+    numbers[0] = part[0];
+    numbers[1] = part[1];
+    numbers[2] = wrapping_add_u64(at as u64, on);
+    numbers[MORE] = on;
+    word
 }
 
-fn reached(answer: Reached) {
-    match answer {
-        Reached::Message(part) => {
-            counted(b" message", part.place as u64);
-            number(part.size as u64);
-        }
-        Reached::Bad(fault) => bad(fault),
-        Reached::NotAFile => plainly(21),
-        Reached::End => text(b" end"),
-    }
+fn count_of(word: u64) -> u64 {
+    word / 0x1_0000 % 0x1_0000
 }
 
-pub fn walk_line(line: &[u8], head: &[u8], cursor: Cursor, file: &[u8]) {
-    if end(line, cursor).failed {
-        return;
-    }
-    text(head);
-    walked(file);
-    end_line();
+fn entry(file: &[u8], at: usize, numbers: &mut [u64; 16]) -> u64 {
+    let mut line = [0u64; 3];
+    let word = morlewen_line(file, at, &mut line);
+    numbers[0] = line[0];
+    numbers[1] = line[1];
+    numbers[2] = line[2];
+    word
 }
 
-// A step that does not move on is the last. A file has fewer records than bytes, so the turns are enough.
-fn walked(file: &[u8]) {
+// Tells each step of a walk, or each part of a listing, but the last, which it answers.
+fn each(code: u8, template: &[u8], file: &[u8], numbers: &mut [u64; 16]) -> u64 {
     let mut at = 0;
-    let mut turns = file.len();
-    while turns > 0 {
-        let next = step_shown(file, at);
-        if next == at {
-            return;
-        }
-        text(b",");
-        at = next;
-        turns -= 1;
+    let mut word = one_of(code, file, 0, numbers);
+    while at < file.len() && numbers[MORE] > 0 {
+        say(template, word, numbers, file, file);
+        at += 1;
+        word = one_of(code, file, at, numbers);
     }
-    step_shown(file, at);
+    word
 }
 
-// What the step answers; the next record.
-fn step_shown(file: &[u8], at: usize) -> usize {
-    let stepping = step(file, at);
-    let answer = stepping.answer;
-    reached(answer);
-    stepping.next
-}
-
-pub fn compare_line(line: &[u8], head: &[u8], cursor: Cursor, file: &[u8], storage: &mut [u8]) {
-    let record = named(line, cursor, b"record", LARGEST);
-    let mut places = [0u32; MOST_ENTRIES];
-    let lent = list(
-        line,
-        word(line, record.cursor, b"list"),
-        b"with",
-        &mut places,
-    );
-    let taken = bytes_to_end(line, word(line, lent.cursor, b"with"), MOST, storage);
-    if taken.cursor.failed {
-        return;
-    }
-    text(head);
-    let room = front_places(&mut places, lent.count);
-    compared(compare(
-        file,
-        record.value as usize,
-        between(storage, 0, taken.count),
-        room,
-    ));
-    text(b" list");
-    numbers(room);
-    end_line();
-}
-
-fn compared(answer: Comparison) {
-    match answer {
-        Comparison::Same => text(b" same"),
-        Comparison::Different(total) => counted(b" different", total as u64),
-        Comparison::NotAFile => plainly(21),
-        Comparison::NoRecord => plainly(22),
-        Comparison::Bad(fault) => bad(fault),
-        Comparison::RadioUnread(refusal) => passing_on(31, refusal),
-        Comparison::Beginning => plainly(32),
+fn one_of(code: u8, file: &[u8], at: usize, numbers: &mut [u64; 16]) -> u64 {
+    match code {
+        b'W' => step(file, at, numbers),
+        _ => listed(file, at, numbers),
     }
 }
 
-fn numbers(list: &[u32]) {
+// A listing: first how many records there are, then the entry of each.
+fn listed(file: &[u8], at: usize, numbers: &mut [u64; 16]) -> u64 {
+    let records = morlewen_records(file);
+    numbers[MORE] = ((at as u64) < count_of(records)) as u64;
+    if at == 0 {
+        numbers[4] = kind_of(records);
+        return records;
+    }
+    let word = entry(file, at - 1, numbers);
+    numbers[4] = kind_of(word) % 4 + 4;
+    numbers[5] = (at - 1) as u64;
+    word
+}
+
+fn places(list: &[u32; MOST_ENTRIES], count: u64) {
     let mut i = 0;
-    while i < list.len() {
+    while i < MOST_ENTRIES && (i as u64) < count {
         place(list[i]);
         i += 1;
     }
@@ -215,96 +140,4 @@ fn numbers(list: &[u32]) {
 
 fn place(n: u32) {
     number(n as u64);
-}
-
-pub fn make_line(line: &[u8], head: &[u8], cursor: Cursor, storage: &mut [u8]) {
-    let room = room_of(line, cursor);
-    let taken = bytes_to_end(line, room.cursor, MOST, storage);
-    if taken.cursor.failed {
-        return;
-    }
-    text(head);
-    made(between(storage, 0, taken.count), room.value);
-}
-
-fn made(message: &[u8], room: u64) {
-    let mut blank = [BLANK; ROOM];
-    let lent = front(&mut blank, room);
-    match make(message, lent) {
-        Making::Made => text(b" made"),
-        Making::TooLong => plainly(33),
-        Making::Unread(refusal) => passing_on(34, refusal),
-        Making::WrongBuffer => plainly(35),
-    }
-    buffer(lent);
-    end_line();
-}
-
-pub fn entry_line(line: &[u8], head: &[u8], cursor: Cursor, file: &[u8]) {
-    let at = named(line, cursor, b"at", LARGEST);
-    if end(line, at.cursor).failed {
-        return;
-    }
-    text(head);
-    entered(entry_at(file, at.value as usize));
-    end_line();
-}
-
-fn entered(answer: Entry) {
-    match answer {
-        Entry::Good {
-            message_type,
-            number: message_number,
-            size,
-        } => {
-            number(message_type as u64);
-            number(message_number as u64);
-            number(size as u64);
-        }
-        Entry::Bad(fault) => bad(fault),
-        Entry::NoRecord => plainly(22),
-        Entry::NotAFile => plainly(21),
-    }
-}
-
-pub fn list_line(line: &[u8], head: &[u8], cursor: Cursor, file: &[u8]) {
-    if end(line, cursor).failed {
-        return;
-    }
-    text(head);
-    match count(file) {
-        Counting::Count(records) => {
-            counted(b" records", records as u64);
-            entries(file, records);
-        }
-        Counting::NotAFile => plainly(21),
-    }
-    end_line();
-}
-
-fn entries(file: &[u8], records: usize) {
-    let mut n = 0;
-    while n < records {
-        counted(b";", n as u64);
-        entered(entry_at(file, n));
-        n += 1;
-    }
-}
-
-// ---- refusals: their own number, and that of reading or 0
-
-fn plainly(own: u64) {
-    refused(own);
-    number(0);
-}
-
-fn passing_on(own: u64, refusal: Refusal) {
-    refused(own);
-    number(number_of(refusal));
-}
-
-fn bad(fault: RecordFault) {
-    let numbers = fault.numbers();
-    refused(numbers.number as u64);
-    number(numbers.reading as u64);
 }

@@ -17,9 +17,10 @@ pub fn front<'a>(buffer: &'a mut [u8], room: u64) -> &'a mut [u8] {
 }
 
 // So many places at the front of a list.
-pub fn front_places<'a>(places: &'a mut [u32], count: usize) -> &'a mut [u32] {
-    if places.len() < count {
+pub fn front_places<'a>(places: &'a mut [u32], count: u64) -> &'a mut [u32] {
+    let size = count as usize;
+    if places.len() < size {
         return &mut places[..0];
     }
-    &mut places[..count]
+    &mut places[..size]
 }

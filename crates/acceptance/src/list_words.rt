@@ -1,105 +1,80 @@
 // LIST: words that each add a number, once or so many times, to a lent list.
-// Rests on `cursor`, and on `byte_words` for what BYTES and LIST share.
-use crate::byte_words::Growth;
-use crate::byte_words::Taken;
-use crate::byte_words::left;
-use crate::byte_words::too_many;
-use crate::cursor::Cursor;
-use crate::cursor::Decimal;
-use crate::cursor::between;
-use crate::cursor::decimal_of;
-use crate::cursor::moved;
-use crate::cursor::no_number;
-use crate::cursor::past_spaces;
-use crate::cursor::place_of;
-use crate::cursor::word_end;
-use crate::widths::LARGEST_FOUR;
-use crate::widths::four;
-use check::same;
+// Rests on `words` and `reader`.
+use crate::byte_words::is_next;
+use crate::reader::A_NUMBER;
+use crate::reader::FEWER_NUMBERS;
+use crate::reader::LEFT;
+use crate::words::Decimal;
+use crate::words::NO_NUMBER;
+use crate::words::TAKEN;
+use crate::words::TOO_LARGE;
+use crate::words::between;
+use crate::words::bounded;
+use crate::words::decimal_of;
+use crate::words::judged;
+use crate::words::place_of;
+use std::num::wrapping_sub_u64;
 
 pub const MOST_ENTRIES: usize = 600;
 
-// The words up to the one that must follow.
-pub fn list(line: &[u8], cursor: Cursor, stop: &[u8], into: &mut [u32]) -> Taken {
-    let mut count = 0;
-    let mut at = cursor.at;
-    let mut turns = line.len();
-    while turns > 0 {
-        let from = past_spaces(line, at);
-        let to = word_end(line, from);
-        if cursor.failed || line.len() <= from || same(between(line, from, to), stop) {
-            return Taken {
-                count,
-                cursor: moved(cursor, at),
-            };
-        }
-        match entered(between(line, from, to), count, into) {
-            Growth::Now(now) => {
-                count = now;
-            }
-            Growth::Unfit => {
-                return Taken {
-                    count,
-                    cursor: no_number(cursor, from, LARGEST_FOUR),
-                };
-            }
-            Growth::TooMany => {
-                return Taken {
-                    count,
-                    cursor: too_many(cursor, from, MOST_ENTRIES, b" numbers"),
-                };
-            }
-        }
-        at = to;
-        turns -= 1;
-    }
-    Taken {
-        count,
-        cursor: moved(cursor, at),
-    }
-}
+// Where the numbers have the length of the list.
+pub const ENTERED: usize = 10;
 
-fn entered(word: &[u8], count: usize, into: &mut [u32]) -> Growth {
+// Adds what a word says, if it fits. The word that must follow is left, and so is the end of the line.
+pub fn list_word(
+    word: &[u8],
+    token: &[u8],
+    numbers: &mut [u64; 16],
+    list: &mut [u32; MOST_ENTRIES],
+) -> u8 {
     let star = place_of(word, 0, b'*');
-    match decimal_of(between(word, 0, star), LARGEST_FOUR) {
-        Decimal::Number(n) => {
-            if star < word.len() {
-                return entered_times(n, between(word, star + 1, word.len()), count, into);
-            }
-            entered_so_often(n, 1, count, into)
-        }
-        _ => Growth::Unfit,
-    }
+    let number = decimal_of(between(word, 0, star), 0xFFFF_FFFF);
+    let times = times_of(word, star, wrapping_sub_u64(600, numbers[ENTERED]));
+    let entered = entered_as(is_next(word, token), number.verdict, times);
+    numbers[ENTERED] = enter_all(
+        number.value,
+        entered.value,
+        numbers[ENTERED] as usize,
+        list,
+    ) as u64;
+    entered.verdict
 }
 
-fn entered_times(n: u64, times: &[u8], count: usize, into: &mut [u32]) -> Growth {
-    match decimal_of(times, left(count, MOST_ENTRIES) as u64) {
-        Decimal::NotDigits => Growth::Unfit,
-        Decimal::TooLarge => Growth::TooMany,
-        Decimal::Number(times) => entered_so_often(n, times, count, into),
+// What stands behind the star; without one it is once.
+fn times_of(word: &[u8], star: usize, most: u64) -> Decimal {
+    if word.len() <= star {
+        return bounded(1, most);
     }
+    decimal_of(between(word, star + 1, word.len()), most)
 }
 
-fn entered_so_often(n: u64, times: u64, count: usize, into: &mut [u32]) -> Growth {
-    if (left(count, MOST_ENTRIES) as u64) < times {
-        return Growth::TooMany;
+// How often a number is entered, by what it and its count are.
+fn entered_as(next: bool, number: u8, times: Decimal) -> Decimal {
+    if next {
+        return judged(0, LEFT);
     }
-    Growth::Now(enter_all(four(n), times, count, into))
+    if number != TAKEN || times.verdict == NO_NUMBER {
+        return judged(0, A_NUMBER);
+    }
+    if times.verdict == TOO_LARGE {
+        return judged(0, FEWER_NUMBERS);
+    }
+    times
 }
 
-fn enter_all(n: u32, times: u64, count: usize, into: &mut [u32]) -> usize {
-    let mut at = count;
+fn enter_all(n: u64, times: u64, from: usize, list: &mut [u32]) -> usize {
+    let mut at = from;
     let mut i = 0;
     while i < times {
-        at = enter(n, at, into);
+        at = enter(n, at, list);
         i += 1;
     }
     at
 }
 
-fn enter(n: u32, at: usize, into: &mut [u32]) -> usize {
-    if at < into.len() {
-        into[at] = n;
+fn enter(n: u64, at: usize, list: &mut [u32]) -> usize {
+    if at < list.len() {
+        list[at] = (n % 0x1_0000_0000) as u32;
         return at + 1;
     }
     at

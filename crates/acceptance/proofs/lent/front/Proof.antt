@@ -1,9 +1,9 @@
--- `lent::front` lends no more than there is.
+-- `lent::front` lends and returns what it was given.
+use borrow.Author.Needs.{needs}
+use lib.ListN.{length}
 use mathlib.Core.Path.{sym}
 use native.Mathlib.Omega.{arith}
 use lib.Seq.{length-take-le}
-use borrow.Author.Needs.{needs}
-use borrow.Author.Needs.{needs}
 use Rattle.acceptance.proofs.lent.front.Statement.{statement}
 use Rattle.acceptance.proofs.lent.front.Tie as tie
 

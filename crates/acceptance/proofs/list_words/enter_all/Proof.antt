@@ -1,16 +1,16 @@
 -- `list_words::enter_all` puts one number after another, and ends.
-use lib.ListN.{length}
-use Prim.Native.Nat.{_-_, _≤_}
 use borrow.Author.Needs.{needs}
+use lib.ListN.{length}
 use mathlib.Core.Path.{_≡_}
+use Prim.Native.Nat.{_-_, _≤_}
 use Rattle.acceptance.proofs.list_words.enter_all.Statement.{statement}
 use Rattle.acceptance.proofs.list_words.enter_all.Tie as tie
 
 abbrev Inv-loop : tie.InvT-loop
-Inv-loop n times count into₀ at₀ i₀ into at i = (length into ≡ length into₀) × (i ≤ times)
+Inv-loop n times from list₀ at₀ i₀ list at i = (length list ≡ length list₀) × (i ≤ times)
 
 abbrev μ-loop : tie.MeasureT-loop
-μ-loop n times count into₀ at₀ i₀ into at i = times - i
+μ-loop n times from list₀ at₀ i₀ list at i = times - i
 
 loop-holds : tie.Need-loop-holds Inv-loop μ-loop
 loop-holds c = search needs

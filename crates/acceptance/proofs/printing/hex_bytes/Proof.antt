@@ -1,7 +1,7 @@
 -- `printing::hex_bytes` prints one byte after another, and ends.
-use Prim.Native.Nat.{_-_, _≤_}
 use borrow.Author.Needs.{needs}
 use lib.ListN.{length}
+use Prim.Native.Nat.{_-_, _≤_}
 use Rattle.acceptance.proofs.printing.hex_bytes.Statement.{statement}
 use Rattle.acceptance.proofs.printing.hex_bytes.Tie as tie
 

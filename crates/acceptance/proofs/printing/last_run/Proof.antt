@@ -1,15 +1,15 @@
 -- `printing::last_run` goes back byte by byte, and ends.
-use lib.ListN.{length}
 use borrow.Author.Needs.{needs}
+use lib.ListN.{length}
 use Prim.Native.Nat.{_≤_}
 use Rattle.acceptance.proofs.printing.last_run.Statement.{statement}
 use Rattle.acceptance.proofs.printing.last_run.Tie as tie
 
 abbrev Inv-loop : tie.InvT-loop
-Inv-loop bytes left₀ left = left ≤ length bytes
+Inv-loop bytes start₀ start = start ≤ length bytes
 
 abbrev μ-loop : tie.MeasureT-loop
-μ-loop bytes left₀ left = left
+μ-loop bytes start₀ start = start
 
 loop-holds : tie.Need-loop-holds Inv-loop μ-loop
 loop-holds c = search needs
@@ -26,14 +26,11 @@ sub-if1-2 c = search needs
 shared-slice-read-if1-2 : tie.Need-shared-slice-read-if1-2 Inv-loop μ-loop
 shared-slice-read-if1-2 c = search needs
 
-sub-result : tie.Need-sub-result Inv-loop μ-loop
-sub-result c = search needs
-
 returns : tie.Need-returns Inv-loop μ-loop
 returns c = search needs
 
-sub-left : tie.Need-sub-left Inv-loop μ-loop
-sub-left c = search needs
+sub-start : tie.Need-sub-start Inv-loop μ-loop
+sub-start c = search needs
 
 loop-less : tie.Need-loop-less Inv-loop μ-loop
 loop-less c = search needs
@@ -55,9 +52,8 @@ last-run-spec =
     shared-slice-read-if1
     sub-if1-2
     shared-slice-read-if1-2
-    sub-result
     returns
-    sub-left
+    sub-start
     loop-less
     loop-again
     returns-2)

@@ -1,0 +1,192 @@
+// One line of cases: a comment, or a command that the table has.
+// Rests on `reader` for its arguments; `file_lines`, `envelope_lines` and `golden_lines` run it.
+use crate::envelope_lines::envelope_line;
+use crate::file_lines::FILE_ROOM;
+use crate::file_lines::file_line;
+use crate::golden_lines::golden_line;
+use crate::list_words::MOST_ENTRIES;
+use crate::printing::remark;
+use crate::printing::text;
+use crate::reader::A_COMMAND;
+use crate::reader::A_NAME;
+use crate::reader::END;
+use crate::reader::FAILED;
+use crate::reader::LINE;
+use crate::reader::MOST;
+use crate::reader::USED;
+use crate::reader::arguments;
+use crate::reader::complain;
+use crate::words::LONGEST;
+use crate::words::between;
+use crate::words::byte_at;
+use crate::words::past_spaces;
+use crate::words::place_of;
+use check::same;
+
+// Runs a line, and answers how many bytes the file has after it.
+// A row has a letter, the command, the tokens of its arguments, and behind the equals sign the template of its answer.
+// The tokens, where X is the letter of a number and m that of a most: a word that must stand; `#Xm` a number; `@Xm/word` BYTES up to the word,
+// and in X where it ends; `+Xm/word` LIST; `?word .. | .. .` what follows the word if it stands there, and else what follows the bar.
+pub fn run_line(
+    line: &[u8],
+    number: usize,
+    file: &mut [u8; FILE_ROOM],
+    used: usize,
+    storage: &mut [u8; MOST],
+) -> usize {
+    run_row(
+        b"f file ?record @Ad | ?bytes @Az | ?zeros #Bz | ?change #Bp @Ac | new . =
+s sum @Am =#A $B
+r read @Am =?k0 accepted type #A version #B flags #C number #D time #E ?F0 unaddressed ?F1 ttl #G qos #H source #I #J [ &IJ ~] destination #K #L [ &KL ~] ?k0 body #M #N [ &MN ~] integrity ?O0 none ?O1 crc $P ?O2 application $P ?k2 refused #n
+w write type #A2 version #B1 flags #C1 number #D4 time #E4 ?unaddressed | ttl #G2 qos #H2 . source @Iw/destination destination @Jw/body body @Kw/integrity integrity #K4 room #Lr =?k01 wrote #v ?k3 refused #n ? [ ! ~]
+a rewrite room #Lr of @Am =?k01 wrote #v ?k2 unread #n ?k3 refused #n ? [ ! ~]
+q qos ?join #A1 #B1 #C1 #D1 #E1 | split #A2 . =?k01 #v ?k3 refused #n ?F1 #A #B #C #D
+l late flags #C1 time #E4 ?unaddressed | ttl #G2 . clock #H8 =?c0 in time ?c1 late ?c2 no clock
+n sequence from #A4 to #B4 =?c0 repeat ?c1 next ?c2 ahead #v ?c3 behind #v
+m make room #Lr of @Am =?k0 made ?k3 refused #n #r ? [ ! ~]
+C check =?k0 records #c ?k3 record #c refused #n #r
+F find type #A2 number #B4 =?k01 record #v ?k3 refused #n #r ? opened #c
+S step at #A8 =?k0 end ?k1 message #A #B ?k3 refused #n #r ? next #C
+W walk =?k0 end ?k1 message #A #B ?k3 refused #n #r ?D1 ~,
+D compare record #A8 list +K4/with with @Cm =?k0 same ?k1 different #v ?k3 refused #n #r ? list
+E entry at #A8 =?k0 #A #B #C ?k3 refused #n #r
+L list =?E47 #F ?E4 #A #B #C ?E37 refused #n #r ?E0 records #c ?D1 ~;
+0 edits record #A8 =?k1 edited #A refused #B ?k03 no message
+1 flips record #A8 =?k1 flipped #A refused #B ?k03 no message
+2 pairs record #A8 =?k1 flipped #A refused #B ?k03 no message
+",
+        line,
+        number,
+        file,
+        used,
+        storage,
+    )
+}
+
+// Runs the line by its row of the table.
+fn run_row(
+    table: &[u8],
+    line: &[u8],
+    number: usize,
+    file: &mut [u8; FILE_ROOM],
+    used: usize,
+    storage: &mut [u8; MOST],
+) -> usize {
+    let mut numbers = [0u64; 16];
+    let mut list = [0u32; MOST_ENTRIES];
+    numbers[LINE] = number as u64;
+    numbers[USED] = used as u64;
+    let place = row_of(command_of(line), table);
+    let row = between(table, place, place_of(table, place, b'\n'));
+    let from = start_of(line, row, &mut numbers);
+    let end = arguments(line, from, row, &mut numbers, storage, &mut list);
+    run_read(
+        code_of(row, end),
+        between(line, 0, from),
+        row,
+        &mut numbers,
+        file,
+        used,
+        storage,
+        &mut list,
+    )
+}
+
+// The letter of a row, or zero where the line was not understood.
+fn code_of(row: &[u8], end: usize) -> u8 {
+    if end == FAILED {
+        return 0;
+    }
+    byte_at(row, 0)
+}
+
+fn command_of(line: &[u8]) -> &[u8] {
+    let from = past_spaces(line, 0);
+    between(line, from, place_of(line, from, b' '))
+}
+
+// The place of a command's row, or the table's length.
+fn row_of(command: &[u8], table: &[u8]) -> usize {
+    let mut at = 0;
+    while at < table.len() {
+        let end = place_of(table, at, b'\n');
+        if is_row(between(table, at, end), command) {
+            return at;
+        }
+        at = end + 1;
+    }
+    at
+}
+
+fn is_row(row: &[u8], command: &[u8]) -> bool {
+    same(between(row, 2, place_of(row, 2, b' ')), command)
+}
+
+// Where the arguments begin: behind the command, and behind the colon that ends the name. A line of the file has none.
+fn start_of(line: &[u8], row: &[u8], numbers: &mut [u64; 16]) -> usize {
+    let from = past_spaces(line, 0);
+    let to = place_of(line, from, b' ');
+    if is_silent(line, from, numbers[LINE]) {
+        return FAILED;
+    }
+    match byte_at(row, 0) {
+        0 => complain(A_COMMAND, from, row, numbers),
+        b'f' => to,
+        _ => behind_name(line, to, numbers),
+    }
+}
+
+// Whether a line is a comment, or so long that this alone is told.
+fn is_silent(line: &[u8], from: usize, number: u64) -> bool {
+    if LONGEST < line.len() {
+        remark(number, b": longer than 4096 characters\n");
+        return true;
+    }
+    line.len() <= from || byte_at(line, from) == b'#'
+}
+
+fn behind_name(line: &[u8], to: usize, numbers: &mut [u64; 16]) -> usize {
+    let colon = place_of(line, to, b':');
+    if line.len() <= colon || colon <= past_spaces(line, to) {
+        return complain(A_NAME, to, line, numbers);
+    }
+    colon + 1
+}
+
+fn run_read(
+    code: u8,
+    head: &[u8],
+    row: &[u8],
+    numbers: &mut [u64; 16],
+    file: &mut [u8; FILE_ROOM],
+    used: usize,
+    storage: &[u8; MOST],
+    list: &mut [u32; MOST_ENTRIES],
+) -> usize {
+    let message = between(storage, 0, numbers[END] as usize);
+    match code {
+        0 => used,
+        b'f' => file_line(numbers, message, file, used),
+        _ => {
+            text(between(head, past_spaces(head, 0), head.len()));
+            answer(code, row, numbers, message, file, list);
+            used
+        }
+    }
+}
+
+fn answer(
+    code: u8,
+    row: &[u8],
+    numbers: &mut [u64; 16],
+    message: &[u8],
+    file: &mut [u8; FILE_ROOM],
+    list: &mut [u32; MOST_ENTRIES],
+) {
+    let template = between(row, place_of(row, 0, b'=') + 1, row.len());
+    match code {
+        b'a'..=b'z' => envelope_line(code, template, numbers, message),
+        _ => golden_line(code, template, numbers, message, file, list),
+    }
+    text(b"\n");
+}
