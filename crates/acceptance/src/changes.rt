@@ -1,7 +1,12 @@
 // The byte editor at work, and bits that flip: a message of the file is changed and changed back, and the file is checked in between.
 // Rests on the crate `exports`.
-use crate::file_lines::FILE_ROOM;
 use crate::golden_lines::step;
+use crate::numbers::USED;
+use crate::numbers::at;
+use crate::numbers::place_at;
+use crate::numbers::put_four;
+use crate::printing::say;
+use crate::reader::MEMORY;
 use crate::words::between;
 use crate::words::byte_at;
 use exports::goldens::morlewen_check;
@@ -23,20 +28,19 @@ const FLAGS: usize = 4;
 const BITS: usize = 4_096;
 
 // Tries each change of a series, and counts those made, and those after which check refuses the file.
-pub fn series(code: u8, file: &mut [u8; FILE_ROOM], used: usize, numbers: &mut [u64; 16]) -> u64 {
-    let word = step(between(file, 0, used), numbers[0] as usize, numbers);
-    let place = numbers[0] as usize;
-    numbers[0] = 0;
-    numbers[1] = 0;
-    numbers[2] = used as u64;
+pub fn series_line(code: u8, template: &[u8], numbers: &mut [u64; 16], memory: &mut [u8; MEMORY]) {
+    let used = place_at(numbers, USED);
+    let word = step(between(memory, 0, used), place_at(numbers, 0), numbers);
+    let place = place_at(numbers, 0);
+    put_four(numbers, 0, 0, used as u64, 0);
     try_all(
         code,
         place,
         tries_of(code, word / 0x1_0000_0000),
-        file,
+        memory,
         numbers,
     );
-    word
+    say(template, word, numbers, template, template);
 }
 
 fn tries_of(code: u8, size: u64) -> usize {
@@ -52,12 +56,12 @@ fn try_all(
     code: u8,
     place: usize,
     tries: usize,
-    file: &mut [u8; FILE_ROOM],
+    memory: &mut [u8; MEMORY],
     numbers: &mut [u64; 16],
 ) {
     let mut n = 0;
     while n < tries {
-        tried(first(code, n), second(code, n), place, file, numbers);
+        tried(first(code, n), second(code, n), place, memory, numbers);
         n += 1;
     }
 }
@@ -98,17 +102,19 @@ fn tried(
     first: usize,
     second: usize,
     place: usize,
-    file: &mut [u8; FILE_ROOM],
+    memory: &mut [u8; MEMORY],
     numbers: &mut [u64; 16],
 ) {
     if left_out(first) || left_out(second) {
         return;
     }
-    make(first, second, place, file);
-    let word = morlewen_check(between(file, 0, numbers[2] as usize));
-    make(first, second, place, file);
-    numbers[0] = wrapping_add_u64(numbers[0], 1);
-    numbers[1] = wrapping_add_u64(numbers[1], (word % 256 > 0) as u64);
+    make(first, second, place, memory);
+    let used = at(numbers, 2);
+    let word = morlewen_check(between(memory, 0, used as usize));
+    make(first, second, place, memory);
+    let made = wrapping_add_u64(at(numbers, 0), 1);
+    let refused = wrapping_add_u64(at(numbers, 1), (word % 256 > 0) as u64);
+    put_four(numbers, made, refused, used, 0);
 }
 
 // Past the record, or a change of the bits that declare the kind, which makes another message.
@@ -117,21 +123,21 @@ fn left_out(touch: usize) -> bool {
     MOST_MESSAGE <= place || (place == FLAGS && touch / 8 % 4 != 0)
 }
 
-fn make(first: usize, second: usize, place: usize, file: &mut [u8; FILE_ROOM]) {
+fn make(first: usize, second: usize, place: usize, memory: &mut [u8; MEMORY]) {
     add(
         wrapping_add_usize(place, first / 256),
         (first % 256) as u8,
-        file,
+        memory,
     );
     add(
         wrapping_add_usize(place, second / 256),
         (second % 256) as u8,
-        file,
+        memory,
     );
 }
 
-fn add(place: usize, mask: u8, file: &mut [u8; FILE_ROOM]) {
-    if place < FILE_ROOM {
-        file[place] = file[place] ^ mask;
+fn add(place: usize, mask: u8, memory: &mut [u8; MEMORY]) {
+    if place < MEMORY {
+        memory[place] = memory[place] ^ mask;
     }
 }

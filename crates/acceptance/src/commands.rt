@@ -1,19 +1,22 @@
 // One line of cases: a comment, or a command that the table has.
-// Rests on `reader` for its arguments; `file_lines`, `envelope_lines` and `golden_lines` run it.
+// Rests on `reader` for its arguments; `file_lines`, `envelope_lines`, `golden_lines` and `changes` run it.
+use crate::changes::series_line;
 use crate::envelope_lines::envelope_line;
-use crate::file_lines::FILE_ROOM;
+use crate::envelope_lines::lent_line;
 use crate::file_lines::file_line;
+use crate::golden_lines::compare_line;
 use crate::golden_lines::golden_line;
-use crate::list_words::MOST_ENTRIES;
+use crate::numbers::LINE;
+use crate::numbers::USED;
+use crate::numbers::at;
+use crate::numbers::place_at;
 use crate::printing::remark;
 use crate::printing::text;
 use crate::reader::A_COMMAND;
 use crate::reader::A_NAME;
-use crate::reader::END;
 use crate::reader::FAILED;
-use crate::reader::LINE;
-use crate::reader::MOST;
-use crate::reader::USED;
+use crate::reader::FILE_ROOM;
+use crate::reader::MEMORY;
 use crate::reader::arguments;
 use crate::reader::complain;
 use crate::words::LONGEST;
@@ -27,28 +30,22 @@ use check::same;
 // A row has a letter, the command, the tokens of its arguments, and behind the equals sign the template of its answer.
 // The tokens, where X is the letter of a number and m that of a most: a word that must stand; `#Xm` a number; `@Xm/word` BYTES up to the word,
 // and in X where it ends; `+Xm/word` LIST; `?word .. | .. .` what follows the word if it stands there, and else what follows the bar.
-pub fn run_line(
-    line: &[u8],
-    number: usize,
-    file: &mut [u8; FILE_ROOM],
-    used: usize,
-    storage: &mut [u8; MOST],
-) -> usize {
+pub fn run_line(line: &[u8], number: usize, used: usize, memory: &mut [u8; MEMORY]) -> usize {
     run_row(
         b"f file ?record @Ad | ?bytes @Az | ?zeros #Bz | ?change #Bp @Ac | new . =
 s sum @Am =#A $B
 r read @Am =?k0 accepted type #A version #B flags #C number #D time #E ?F0 unaddressed ?F1 ttl #G qos #H source #I #J [ &IJ ~] destination #K #L [ &KL ~] ?k0 body #M #N [ &MN ~] integrity ?O0 none ?O1 crc $P ?O2 application $P ?k2 refused #n
-w write type #A2 version #B1 flags #C1 number #D4 time #E4 ?unaddressed | ttl #G2 qos #H2 . source @Iw/destination destination @Jw/body body @Kw/integrity integrity #K4 room #Lr =?k01 wrote #v ?k3 refused #n ? [ ! ~]
-a rewrite room #Lr of @Am =?k01 wrote #v ?k2 unread #n ?k3 refused #n ? [ ! ~]
+W write type #A2 version #B1 flags #C1 number #D4 time #E4 ?unaddressed | ttl #G2 qos #H2 . source @Iw/destination destination @Jw/body body @Kw/integrity integrity #K4 room #Lr =?k01 wrote #v ?k3 refused #n ? [ ! ~]
+X rewrite room #Lr of @Am =?k01 wrote #v ?k2 unread #n ?k3 refused #n ? [ ! ~]
 q qos ?join #A1 #B1 #C1 #D1 #E1 | split #A2 . =?k01 #v ?k3 refused #n ?F1 #A #B #C #D
 l late flags #C1 time #E4 ?unaddressed | ttl #G2 . clock #H8 =?c0 in time ?c1 late ?c2 no clock
 n sequence from #A4 to #B4 =?c0 repeat ?c1 next ?c2 ahead #v ?c3 behind #v
-m make room #Lr of @Am =?k0 made ?k3 refused #n #r ? [ ! ~]
+Y make room #Lr of @Am =?k0 made ?k3 refused #n #r ? [ ! ~]
 C check =?k0 records #c ?k3 record #c refused #n #r
 F find type #A2 number #B4 =?k01 record #v ?k3 refused #n #r ? opened #c
 S step at #A8 =?k0 end ?k1 message #A #B ?k3 refused #n #r ? next #C
-W walk =?k0 end ?k1 message #A #B ?k3 refused #n #r ?D1 ~,
-D compare record #A8 list +K4/with with @Cm =?k0 same ?k1 different #v ?k3 refused #n #r ? list
+V walk =?k0 end ?k1 message #A #B ?k3 refused #n #r ?D1 ~,
+D compare record #A8 list +Kl/with with @Cm =?k0 same ?k1 different #v ?k3 refused #n #r ? list
 E entry at #A8 =?k0 #A #B #C ?k3 refused #n #r
 L list =?E47 #F ?E4 #A #B #C ?E37 refused #n #r ?E0 records #c ?D1 ~;
 0 edits record #A8 =?k1 edited #A refused #B ?k03 no message
@@ -57,9 +54,8 @@ L list =?E47 #F ?E4 #A #B #C ?E37 refused #n #r ?E0 records #c ?D1 ~;
 ",
         line,
         number,
-        file,
         used,
-        storage,
+        memory,
     )
 }
 
@@ -68,27 +64,37 @@ fn run_row(
     table: &[u8],
     line: &[u8],
     number: usize,
-    file: &mut [u8; FILE_ROOM],
     used: usize,
-    storage: &mut [u8; MOST],
+    memory: &mut [u8; MEMORY],
 ) -> usize {
-    let mut numbers = [0u64; 16];
-    let mut list = [0u32; MOST_ENTRIES];
-    numbers[LINE] = number as u64;
-    numbers[USED] = used as u64;
+    let mut numbers = [
+        0,
+        0,
+        0,
+        0,
+        0,
+        0,
+        0,
+        0,
+        0,
+        0,
+        0,
+        0,
+        used as u64,
+        FILE_ROOM as u64,
+        FILE_ROOM as u64,
+        number as u64,
+    ];
     let place = row_of(command_of(line), table);
     let row = between(table, place, place_of(table, place, b'\n'));
     let from = start_of(line, row, &mut numbers);
-    let end = arguments(line, from, row, &mut numbers, storage, &mut list);
+    let end = arguments(line, from, row, &mut numbers, memory);
     run_read(
         code_of(row, end),
         between(line, 0, from),
         row,
         &mut numbers,
-        file,
-        used,
-        storage,
-        &mut list,
+        memory,
     )
 }
 
@@ -126,7 +132,7 @@ fn is_row(row: &[u8], command: &[u8]) -> bool {
 fn start_of(line: &[u8], row: &[u8], numbers: &mut [u64; 16]) -> usize {
     let from = past_spaces(line, 0);
     let to = place_of(line, from, b' ');
-    if is_silent(line, from, numbers[LINE]) {
+    if is_silent(line, from, at(numbers, LINE)) {
         return FAILED;
     }
     match byte_at(row, 0) {
@@ -158,35 +164,35 @@ fn run_read(
     head: &[u8],
     row: &[u8],
     numbers: &mut [u64; 16],
-    file: &mut [u8; FILE_ROOM],
-    used: usize,
-    storage: &[u8; MOST],
-    list: &mut [u32; MOST_ENTRIES],
+    memory: &mut [u8; MEMORY],
 ) -> usize {
-    let message = between(storage, 0, numbers[END] as usize);
+    let used = place_at(numbers, USED);
     match code {
         0 => used,
-        b'f' => file_line(numbers, message, file, used),
+        b'f' => file_line(numbers, used, memory),
         _ => {
             text(between(head, past_spaces(head, 0), head.len()));
-            answer(code, row, numbers, message, file, list);
+            answer(
+                code,
+                between(row, place_of(row, 0, b'=') + 1, row.len()),
+                numbers,
+                memory,
+            );
+            text(b"\n");
             used
         }
     }
 }
 
-fn answer(
-    code: u8,
-    row: &[u8],
-    numbers: &mut [u64; 16],
-    message: &[u8],
-    file: &mut [u8; FILE_ROOM],
-    list: &mut [u32; MOST_ENTRIES],
-) {
-    let template = between(row, place_of(row, 0, b'=') + 1, row.len());
+fn answer(code: u8, template: &[u8], numbers: &mut [u64; 16], memory: &mut [u8; MEMORY]) {
     match code {
-        b'a'..=b'z' => envelope_line(code, template, numbers, message),
-        _ => golden_line(code, template, numbers, message, file, list),
+        b'a'..=b'z' => envelope_line(code, template, numbers, memory),
+        b'0'..=b'2' => series_line(code, template, numbers, memory),
+        b'D' => compare_line(template, numbers, memory),
+        b'W'..=b'Y' => lent_line(code, template, numbers, memory),
+        _ => {
+            let used = place_at(numbers, USED);
+            golden_line(code, template, numbers, between(memory, 0, used))
+        }
     }
-    text(b"\n");
 }

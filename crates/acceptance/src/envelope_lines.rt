@@ -1,9 +1,19 @@
 // The commands about sums, messages, QoS, lateness and sequence: each is one call of the library, and its answer is told by the row's template.
 // Rests on the crate `exports`.
-use crate::lent::BLANK;
-use crate::lent::ROOM;
-use crate::lent::front;
+use crate::numbers::BEGUN;
+use crate::numbers::CHOICE;
+use crate::numbers::END;
+use crate::numbers::LENT;
+use crate::numbers::at;
+use crate::numbers::four_at;
+use crate::numbers::one_at;
+use crate::numbers::place_at;
+use crate::numbers::put;
+use crate::numbers::put_four;
+use crate::numbers::two_at;
 use crate::printing::say;
+use crate::reader::FILE_ROOM;
+use crate::reader::MEMORY;
 use crate::words::between;
 use exports::envelopes::morlewen_read;
 use exports::envelopes::morlewen_rewrite;
@@ -15,45 +25,68 @@ use exports::sums::morlewen_crc;
 use exports::timing::morlewen_lateness;
 use exports::timing::morlewen_sequence;
 
-// Where the numbers have the room of the lent buffer.
-const LENT: usize = 11;
+// What a lent buffer holds in every byte before a call.
+const BLANK: u8 = 0xEE;
 
-pub fn envelope_line(code: u8, template: &[u8], numbers: &mut [u64; 16], message: &[u8]) {
-    let mut blank = [BLANK; ROOM];
-    let room = numbers[LENT] as usize;
-    let word = envelope_answer(code, numbers, message, &mut blank);
-    say(template, word, numbers, message, between(&blank, 0, room));
+// The largest room of a lent buffer.
+const ROOM: usize = 1_024;
+
+pub fn envelope_line(code: u8, template: &[u8], numbers: &mut [u64; 16], memory: &[u8; MEMORY]) {
+    let message = between(memory, place_at(numbers, BEGUN), place_at(numbers, END));
+    let word = envelope_answer(code, message, numbers);
+    say(template, word, numbers, message, message);
 }
 
-fn envelope_answer(code: u8, numbers: &mut [u64; 16], message: &[u8], blank: &mut [u8]) -> u64 {
-    let room = numbers[LENT];
+fn envelope_answer(code: u8, message: &[u8], numbers: &mut [u64; 16]) -> u64 {
     match code {
         b's' => summed(message, numbers),
         b'r' => read(message, numbers),
         b'q' => qos(numbers),
         b'l' => late(numbers),
-        b'n' => morlewen_sequence(four(numbers[0]), four(numbers[1])),
-        _ => lent_answer(code, numbers, message, front(blank, room)),
+        _ => morlewen_sequence(four_at(numbers, 0), four_at(numbers, 1)),
     }
 }
 
-fn lent_answer(code: u8, numbers: &[u64; 16], message: &[u8], lent: &mut [u8]) -> u64 {
+// The commands that write into a lent buffer.
+pub fn lent_line(code: u8, template: &[u8], numbers: &[u64; 16], memory: &[u8; MEMORY]) {
+    let mut blank = [BLANK; ROOM];
+    let room = place_at(numbers, LENT);
+    let word = lent_answer(code, numbers, memory, front(&mut blank, room));
+    say(template, word, numbers, template, between(&blank, 0, room));
+}
+
+fn lent_answer(code: u8, numbers: &[u64; 16], memory: &[u8; MEMORY], lent: &mut [u8]) -> u64 {
+    let message = between(memory, place_at(numbers, BEGUN), place_at(numbers, END));
     match code {
-        b'w' => written(numbers, message, lent),
-        b'a' => morlewen_rewrite(message, lent),
+        b'W' => written(numbers, memory, lent),
+        b'X' => morlewen_rewrite(message, lent),
         _ => morlewen_make(message, lent),
     }
 }
 
+// So many bytes at the front of a buffer.
+fn front<'a>(buffer: &'a mut [u8], size: usize) -> &'a mut [u8] {
+    if buffer.len() < size {
+        return &mut buffer[..0];
+    }
+    &mut buffer[..size]
+}
+
 fn summed(message: &[u8], numbers: &mut [u64; 16]) -> u64 {
-    numbers[1] = morlewen_crc(message) as u64;
+    put_four(
+        numbers,
+        message.len() as u64,
+        morlewen_crc(message) as u64,
+        0,
+        0,
+    );
     0
 }
 
 // Of a message that is refused neither addressing nor integrity is told: no template has these kinds.
 fn read(message: &[u8], numbers: &mut [u64; 16]) -> u64 {
-    numbers[5] = 9;
-    numbers[14] = 9;
+    put(numbers, 5, 9);
+    put(numbers, 14, 9);
     morlewen_read(message, numbers)
 }
 
@@ -71,27 +104,27 @@ struct Given {
 
 fn given_by(numbers: &[u64; 16]) -> Given {
     Given {
-        message_type: two(numbers[0]),
-        version: one(numbers[1]),
-        flags: one(numbers[2]),
-        number: four(numbers[3]),
-        time: four(numbers[4]),
-        addressed: one(numbers[5]),
-        ttl: two(numbers[6]),
-        qos: two(numbers[7]),
-        integrity: four(numbers[10]),
+        message_type: two_at(numbers, 0),
+        version: one_at(numbers, 1),
+        flags: one_at(numbers, 2),
+        number: four_at(numbers, 3),
+        time: four_at(numbers, 4),
+        addressed: one_at(numbers, CHOICE),
+        ttl: two_at(numbers, 6),
+        qos: two_at(numbers, 7),
+        integrity: four_at(numbers, 10),
     }
 }
 
 // The source, the destination and the body stand behind each other.
-fn written(numbers: &[u64; 16], bytes: &[u8], lent: &mut [u8]) -> u64 {
-    let source = numbers[8] as usize;
-    let destination = numbers[9] as usize;
+fn written(numbers: &[u64; 16], memory: &[u8; MEMORY], lent: &mut [u8]) -> u64 {
+    let source = place_at(numbers, 8);
+    let destination = place_at(numbers, 9);
     wrote(
         given_by(numbers),
-        between(bytes, 0, source),
-        between(bytes, source, destination),
-        between(bytes, destination, bytes.len()),
+        between(memory, FILE_ROOM, source),
+        between(memory, source, destination),
+        between(memory, destination, place_at(numbers, END)),
         lent,
     )
 }
@@ -115,7 +148,7 @@ fn wrote(given: Given, source: &[u8], destination: &[u8], body: &[u8], lent: &mu
 }
 
 fn qos(numbers: &mut [u64; 16]) -> u64 {
-    match numbers[5] {
+    match at(numbers, CHOICE) {
         0 => joined(numbers),
         _ => split(numbers),
     }
@@ -123,50 +156,43 @@ fn qos(numbers: &mut [u64; 16]) -> u64 {
 
 fn joined(numbers: &[u64; 16]) -> u64 {
     morlewen_qos_join(
-        one(numbers[0]),
-        one(numbers[1]),
-        one(numbers[2]),
-        one(numbers[3]),
-        one(numbers[4]),
+        one_at(numbers, 0),
+        one_at(numbers, 1),
+        one_at(numbers, 2),
+        one_at(numbers, 3),
+        one_at(numbers, 4),
     )
 }
 
 // The first of the five is told as the value of a word.
 fn split(numbers: &mut [u64; 16]) -> u64 {
     let mut parts = [0u8; 5];
-    morlewen_qos_split(two(numbers[0]), &mut parts);
-    numbers[0] = wide(parts[1]);
-    numbers[1] = wide(parts[2]);
-    numbers[2] = wide(parts[3]);
-    numbers[3] = wide(parts[4]);
-    wide(parts[0]) % 8 * 0x1_0000_0000
+    morlewen_qos_split(two_at(numbers, 0), &mut parts);
+    put_four(
+        numbers,
+        part(&parts, 1),
+        part(&parts, 2),
+        part(&parts, 3),
+        part(&parts, 4),
+    );
+    part(&parts, 0) % 8 * 0x1_0000_0000
 }
 
-fn late(numbers: &[u64; 16]) -> u64 {
-    let kind = morlewen_lateness(
-        one(numbers[2]),
-        four(numbers[4]),
-        one(numbers[5]),
-        two(numbers[6]),
-        numbers[7],
-    );
-    kind as u64 * 0x1_0000
+fn part(parts: &[u8; 5], place: usize) -> u64 {
+    wide(parts[place % 5])
 }
 
 fn wide(n: u8) -> u64 {
     n as u64
 }
 
-// ---- numbers that were held to their width when they were read: the remainder is the number itself, and tells the checker that nothing is lost
-
-fn one(n: u64) -> u8 {
-    (n % 0x100) as u8
-}
-
-pub fn two(n: u64) -> u16 {
-    (n % 0x1_0000) as u16
-}
-
-pub fn four(n: u64) -> u32 {
-    (n % 0x1_0000_0000) as u32
+fn late(numbers: &[u64; 16]) -> u64 {
+    let kind = morlewen_lateness(
+        one_at(numbers, 2),
+        four_at(numbers, 4),
+        one_at(numbers, CHOICE),
+        two_at(numbers, 6),
+        at(numbers, 7),
+    );
+    kind as u64 * 0x1_0000
 }

@@ -1,61 +1,98 @@
 // The lines that build the golden file that is worked on. Nothing is judged here.
 // Rests on `byte_words`.
-use crate::byte_words::COPY;
-use crate::byte_words::RECORD;
+use crate::byte_words::ZEROS;
 use crate::byte_words::fill;
+use crate::byte_words::push;
+use crate::numbers::BEGUN;
+use crate::numbers::CHOICE;
+use crate::numbers::END;
+use crate::numbers::LINE;
+use crate::numbers::at;
+use crate::numbers::place_at;
 use crate::printing::number;
 use crate::printing::remark;
 use crate::printing::text;
-use crate::reader::CHOICE;
-use crate::reader::LINE;
-
-// The most bytes that the file has: two records more than may be.
-pub const FILE_ROOM: usize = 66_560;
+use crate::reader::FILE_ROOM;
+use crate::reader::MEMORY;
+use crate::words::byte_at;
+use std::num::wrapping_add_usize;
+use std::num::wrapping_sub_usize;
 
 // What a line does, by the alternatives of its row that did not fit.
 const A_RECORD: u64 = 0;
 
-const BYTES: u64 = 1;
+const SOME_BYTES: u64 = 1;
 
-const ZEROS: u64 = 2;
+const SOME_ZEROS: u64 = 2;
 
-const CHANGE: u64 = 3;
+const A_CHANGE: u64 = 3;
+
+const NO_ROOM: u64 = 9;
 
 // The file's length after the line.
-pub fn file_line(
-    numbers: &[u64; 16],
-    message: &[u8],
-    file: &mut [u8; FILE_ROOM],
-    used: usize,
-) -> usize {
-    let choice = numbers[CHOICE];
-    if choice == A_RECORD && FILE_ROOM - 512 < used {
-        remark(numbers[LINE], b": no room for a record in the file\n");
-        return used;
-    }
-    let now = changed(choice, numbers[1] as usize, message, file, used);
-    text(b"file:");
-    number(now as u64);
-    text(b" bytes\n");
+pub fn file_line(numbers: &[u64; 16], used: usize, memory: &mut [u8; MEMORY]) -> usize {
+    let choice = choice_of(at(numbers, CHOICE), used);
+    let begun = place_at(numbers, BEGUN);
+    let size = wrapping_sub_usize(place_at(numbers, END), begun);
+    let now = changed(choice, place_at(numbers, 1), begun, size, used, memory);
+    told(choice, at(numbers, LINE), now);
     now
 }
 
-// Behind the end of a message stand zeros.
+fn choice_of(choice: u64, used: usize) -> u64 {
+    if choice == A_RECORD && FILE_ROOM - 512 < used {
+        return NO_ROOM;
+    }
+    choice
+}
+
+fn told(choice: u64, line: u64, now: usize) {
+    if choice == NO_ROOM {
+        return remark(line, b": no room for a record in the file\n");
+    }
+    text(b"file:");
+    number(now as u64);
+    text(b" bytes\n");
+}
+
 fn changed(
     choice: u64,
     given: usize,
-    message: &[u8],
-    file: &mut [u8; FILE_ROOM],
+    begun: usize,
+    size: usize,
     used: usize,
+    memory: &mut [u8],
 ) -> usize {
     match choice {
-        A_RECORD => fill(message, RECORD, 512, used, file),
-        BYTES => fill(message, COPY, message.len(), used, file),
-        ZEROS => fill(message, COPY, given, used, file),
-        CHANGE => {
-            fill(message, COPY, message.len(), given, file);
+        A_RECORD => record_added(begun, size, used, memory),
+        SOME_BYTES => carry(begun, size, used, memory),
+        SOME_ZEROS => fill(b"", ZEROS, given, used, memory),
+        A_CHANGE => {
+            carry(begun, size, given, memory);
             used
         }
+        NO_ROOM => used,
         _ => 0,
     }
+}
+
+// The stored length, the message, and zeros.
+fn record_added(begun: usize, size: usize, used: usize, memory: &mut [u8]) -> usize {
+    let end = fill(b"", ZEROS, 512, used, memory);
+    let low = push((size / 256 % 256) as u8, used, memory);
+    let first = push((size % 256) as u8, low, memory);
+    carry(begun, size, first, memory);
+    end
+}
+
+// Copies bytes of the memory to another place.
+fn carry(from: usize, size: usize, to: usize, memory: &mut [u8]) -> usize {
+    let mut place = to;
+    let mut i = 0;
+    while i < size {
+        let byte = byte_at(memory, wrapping_add_usize(from, i));
+        place = push(byte, place, memory);
+        i += 1;
+    }
+    place
 }

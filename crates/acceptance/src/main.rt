@@ -6,16 +6,14 @@ mod commands;
 mod envelope_lines;
 mod file_lines;
 mod golden_lines;
-mod lent;
-mod list_words;
+mod numbers;
 mod printing;
 mod reader;
 mod words;
 
 use crate::commands::run_line;
-use crate::file_lines::FILE_ROOM;
 use crate::printing::remark;
-use crate::reader::MOST;
+use crate::reader::MEMORY;
 use crate::words::between;
 use crate::words::place_of;
 use libc::STDIN_FILENO;
@@ -26,13 +24,12 @@ const INPUT: usize = 262_144;
 fn main() {
     let mut input = [0u8; INPUT + 1];
     let size = io::read_full(STDIN_FILENO, &mut input);
-    let mut file = [0u8; FILE_ROOM];
-    let mut storage = [0u8; MOST];
-    run_all(between(&input, 0, size), &mut file, &mut storage);
+    let mut memory = [0u8; MEMORY];
+    run_all(between(&input, 0, size), &mut memory);
 }
 
 // Each turn takes a line feed, or is the last.
-fn run_all(input: &[u8], file: &mut [u8; FILE_ROOM], storage: &mut [u8; MOST]) {
+fn run_all(input: &[u8], memory: &mut [u8; MEMORY]) {
     let mut used = 0;
     let mut at = 0;
     let mut number = 1;
@@ -41,7 +38,7 @@ fn run_all(input: &[u8], file: &mut [u8; FILE_ROOM], storage: &mut [u8; MOST]) {
         if INPUT < input.len() && INPUT <= stop {
             return cut(number);
         }
-        used = run_line(between(input, at, stop), number, file, used, storage);
+        used = run_line(between(input, at, stop), number, used, memory);
         at = stop + 1;
         number += 1;
     }

@@ -1,7 +1,9 @@
 // Answers on standard output, by a template: its words, one after another, with numbers and bytes where a mark stands.
 // Rests on the kit's `io`.
-ghost use Prim.Native.Nat.{_≤_, _<_};
+ghost use Prim.Native.Nat.{_≤_};
 ghost use lib.ListN.{length};
+use crate::numbers::at;
+use crate::numbers::slot;
 use crate::words::between;
 use crate::words::byte_at;
 use crate::words::place_of;
@@ -12,16 +14,16 @@ use std::num::wrapping_add_usize;
 // `#X` a number; `$X` its eight hex digits; `&XY` the bytes of the message from place X on, Y of them, in hex; `%` the message itself;
 // `!` the lent buffer; `~` what stands behind it, with no space in front; `?X12` the words from here on only where X is 1 or 2; `?` again always.
 pub fn say(template: &[u8], answer: u64, numbers: &[u64; 16], message: &[u8], lent: &[u8]) {
-    let mut at = 0;
+    let mut from = 0;
     let mut shown = true;
-    while at < template.len() {
-        let to = place_of(template, at, b' ');
-        let word = between(template, at, to);
+    while from < template.len() {
+        let to = place_of(template, from, b' ');
+        let word = between(template, from, to);
         shown = shows(shown, word, answer, numbers);
         if shown {
             put(word, answer, numbers, message, lent);
         }
-        at = to + 1;
+        from = to + 1;
     }
 }
 
@@ -60,15 +62,8 @@ fn value_of(letter: u8, answer: u64, numbers: &[u64; 16]) -> u64 {
         b'c' => answer / 65_536 % 65_536,
         b'v' => answer / 4_294_967_296,
         b'k' => kind_of(answer),
-        _ => numbers[slot(letter)],
+        _ => at(numbers, slot(letter)),
     }
-}
-
-// The place of a letter's number.
-pub fn slot(letter: u8) -> usize
-    ensures { λ r. ⌜ r < 16 ⌝ }
-{
-    ((letter % 32 + 15) % 16) as usize
 }
 
 // 0: done, with no value. 1: done, with one. 2: refused by reading. 3: refused otherwise.

@@ -20,7 +20,7 @@ pub const NO_NUMBER: u8 = 4;
 
 pub const TOO_LARGE: u8 = 5;
 
-pub const TAKEN: u8 = 8;
+pub const TAKEN: u8 = 18;
 
 pub struct Decimal {
     pub value: u64,

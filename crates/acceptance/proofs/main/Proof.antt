@@ -1,4 +1,4 @@
--- `main` lends and returns what it was given.
+-- `main` lends its buffers whole. Their lengths are cited, since to count them out takes the checker seconds.
 use borrow.Author.Needs.{needs}
 use lib.ListN.{length-replicate}
 use mathlib.Core.Path.{sym}

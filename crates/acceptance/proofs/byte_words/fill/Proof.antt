@@ -7,10 +7,10 @@ use Rattle.acceptance.proofs.byte_words.fill.Statement.{statement}
 use Rattle.acceptance.proofs.byte_words.fill.Tie as tie
 
 abbrev Inv-loop : tie.InvT-loop
-Inv-loop word form times from into₀ at₀ i₀ into at i = (length into ≡ length into₀) × (i ≤ times)
+Inv-loop word form times from into₀ place₀ i₀ into place i = (length into ≡ length into₀) × (i ≤ times)
 
 abbrev μ-loop : tie.MeasureT-loop
-μ-loop word form times from into₀ at₀ i₀ into at i = times - i
+μ-loop word form times from into₀ place₀ i₀ into place i = times - i
 
 loop-holds : tie.Need-loop-holds Inv-loop μ-loop
 loop-holds c = search needs

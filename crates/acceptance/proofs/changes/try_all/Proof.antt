@@ -5,10 +5,10 @@ use Rattle.acceptance.proofs.changes.try_all.Statement.{statement}
 use Rattle.acceptance.proofs.changes.try_all.Tie as tie
 
 abbrev Inv-loop : tie.InvT-loop
-Inv-loop code place tries file₀ numbers₀ n₀ file numbers n = n ≤ tries
+Inv-loop code place tries memory₀ numbers₀ n₀ memory numbers n = n ≤ tries
 
 abbrev μ-loop : tie.MeasureT-loop
-μ-loop code place tries file₀ numbers₀ n₀ file numbers n = tries - n
+μ-loop code place tries memory₀ numbers₀ n₀ memory numbers n = tries - n
 
 loop-holds : tie.Need-loop-holds Inv-loop μ-loop
 loop-holds c = search needs

@@ -6,10 +6,10 @@ use Rattle.acceptance.proofs.golden_lines.each.Statement.{statement}
 use Rattle.acceptance.proofs.golden_lines.each.Tie as tie
 
 abbrev Inv-loop : tie.InvT-loop
-Inv-loop code template file numbers₀ at₀ word₀ numbers at word = at ≤ length file
+Inv-loop code template file numbers₀ turn₀ word₀ numbers turn word = turn ≤ length file
 
 abbrev μ-loop : tie.MeasureT-loop
-μ-loop code template file numbers₀ at₀ word₀ numbers at word = length file - at
+μ-loop code template file numbers₀ turn₀ word₀ numbers turn word = length file - turn
 
 one-of-requires : tie.Need-one-of-requires Inv-loop μ-loop
 one-of-requires c κs = search needs
@@ -17,14 +17,14 @@ one-of-requires c κs = search needs
 loop-holds : tie.Need-loop-holds Inv-loop μ-loop
 loop-holds c = search needs
 
-element-copy-out-if1 : tie.Need-element-copy-out-if1 Inv-loop μ-loop
-element-copy-out-if1 c = search needs
+at-requires : tie.Need-at-requires Inv-loop μ-loop
+at-requires c κs = search needs
 
 say-requires : tie.Need-say-requires Inv-loop μ-loop
 say-requires c κs = search needs
 
-add-at : tie.Need-add-at Inv-loop μ-loop
-add-at c = search needs
+add-turn : tie.Need-add-turn Inv-loop μ-loop
+add-turn c = search needs
 
 one-of-requires-2 : tie.Need-one-of-requires-2 Inv-loop μ-loop
 one-of-requires-2 c κs = search needs
@@ -49,9 +49,9 @@ each-spec =
     μ-loop
     one-of-requires
     loop-holds
-    element-copy-out-if1
+    at-requires
     say-requires
-    add-at
+    add-turn
     one-of-requires-2
     loop-less
     loop-again

@@ -6,10 +6,10 @@ use Rattle.acceptance.proofs.printing.say.Statement.{statement}
 use Rattle.acceptance.proofs.printing.say.Tie as tie
 
 abbrev Inv-loop : tie.InvT-loop
-Inv-loop template answer numbers message lent at₀ shown₀ at shown = 0 ≤ at
+Inv-loop template answer numbers message lent from₀ shown₀ from shown = 0 ≤ from
 
 abbrev μ-loop : tie.MeasureT-loop
-μ-loop template answer numbers message lent at₀ shown₀ at shown = length template - at
+μ-loop template answer numbers message lent from₀ shown₀ from shown = length template - from
 
 loop-holds : tie.Need-loop-holds Inv-loop μ-loop
 loop-holds c = search needs
@@ -26,8 +26,8 @@ shows-requires c κs = search needs
 put-requires : tie.Need-put-requires Inv-loop μ-loop
 put-requires c κs = search needs
 
-add-at : tie.Need-add-at Inv-loop μ-loop
-add-at c = search needs
+add-from : tie.Need-add-from Inv-loop μ-loop
+add-from c = search needs
 
 loop-less : tie.Need-loop-less Inv-loop μ-loop
 loop-less c = search needs
@@ -49,7 +49,7 @@ say-spec =
     between-requires
     shows-requires
     put-requires
-    add-at
+    add-from
     loop-less
     loop-again
     returns)

@@ -5,10 +5,10 @@ use Rattle.acceptance.proofs.reader.arguments.Statement.{statement}
 use Rattle.acceptance.proofs.reader.arguments.Tie as tie
 
 abbrev Inv-loop : tie.InvT-loop
-Inv-loop line from row numbers₀ storage₀ list₀ at₀ here₀ turns₀ numbers storage list at here turns = turns ≤ 8192
+Inv-loop line from row numbers₀ memory₀ place₀ here₀ turns₀ numbers memory place here turns = turns ≤ 8192
 
 abbrev μ-loop : tie.MeasureT-loop
-μ-loop line from row numbers₀ storage₀ list₀ at₀ here₀ turns₀ numbers storage list at here turns = turns
+μ-loop line from row numbers₀ memory₀ place₀ here₀ turns₀ numbers memory place here turns = turns
 
 place-of-requires : tie.Need-place-of-requires Inv-loop μ-loop
 place-of-requires c κs = search needs

@@ -1,11 +1,11 @@
--- `lent::front_places` lends and returns what it was given.
+-- `envelope_lines::front` lends no more than there is.
 use borrow.Author.Needs.{needs}
 use lib.ListN.{length}
 use mathlib.Core.Path.{sym}
 use native.Mathlib.Omega.{arith}
 use lib.Seq.{length-take-le}
-use Rattle.acceptance.proofs.lent.front_places.Statement.{statement}
-use Rattle.acceptance.proofs.lent.front_places.Tie as tie
+use Rattle.acceptance.proofs.envelope_lines.front.Statement.{statement}
+use Rattle.acceptance.proofs.envelope_lines.front.Tie as tie
 
 slice-aggregate-result : tie.Need-slice-aggregate-result
 slice-aggregate-result c = search needs
@@ -19,6 +19,5 @@ slice-aggregate-result-2 c = sym (length-take-le _ _ (omega arith))
 returns-2 : tie.Need-returns-2
 returns-2 c = search needs
 
-pub front-places-spec : {M : Type 1} → statement M
-front-places-spec =
-    tie.close (tie.spec slice-aggregate-result returns slice-aggregate-result-2 returns-2)
+pub front-spec : {M : Type 1} → statement M
+front-spec = tie.close (tie.spec slice-aggregate-result returns slice-aggregate-result-2 returns-2)

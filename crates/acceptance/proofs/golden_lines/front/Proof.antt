@@ -1,11 +1,11 @@
--- `lent::front` lends and returns what it was given.
+-- `golden_lines::front` lends no more than there is.
 use borrow.Author.Needs.{needs}
 use lib.ListN.{length}
 use mathlib.Core.Path.{sym}
 use native.Mathlib.Omega.{arith}
 use lib.Seq.{length-take-le}
-use Rattle.acceptance.proofs.lent.front.Statement.{statement}
-use Rattle.acceptance.proofs.lent.front.Tie as tie
+use Rattle.acceptance.proofs.golden_lines.front.Statement.{statement}
+use Rattle.acceptance.proofs.golden_lines.front.Tie as tie
 
 slice-aggregate-result : tie.Need-slice-aggregate-result
 slice-aggregate-result c = search needs
