@@ -26,8 +26,6 @@ use check::same;
 use std::num::wrapping_sub_u64;
 
 // The forms of a word.
-pub const ZEROS: u8 = 0;
-
 const NUMBERS: u8 = 1;
 
 const QUOTED: u8 = 2;
@@ -150,7 +148,7 @@ fn numbers_of(times: Decimal) -> Decimal {
 
 // ---- into the buffer, from a place on: the next place
 
-pub fn fill(word: &[u8], form: u8, times: usize, from: usize, into: &mut [u8]) -> usize {
+fn fill(word: &[u8], form: u8, times: usize, from: usize, into: &mut [u8]) -> usize {
     let mut place = from;
     let mut i = 0;
     while i < times {

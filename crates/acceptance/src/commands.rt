@@ -33,21 +33,21 @@ use check::same;
 pub fn run_line(line: &[u8], number: usize, used: usize, memory: &mut [u8; MEMORY]) -> usize {
     run_row(
         b"f file ?record @Ad | ?bytes @Az | ?zeros #Bz | ?change #Bp @Ac | new . =
-s sum @Am =#A $B
-r read @Am =?k0 accepted type #A version #B flags #C number #D time #E ?F0 unaddressed ?F1 ttl #G qos #H source #I #J [ &IJ ~] destination #K #L [ &KL ~] ?k0 body #M #N [ &MN ~] integrity ?O0 none ?O1 crc $P ?O2 application $P ?k2 refused #n
+a sum @Am =#A $B
+b read @Am =?k0 accepted type #A version #B flags #C number #D time #E ?F0 unaddressed ?F1 ttl #G qos #H source #I #J [ &IJ ~] destination #K #L [ &KL ~] ?k0 body #M #N [ &MN ~] integrity ?O0 none ?O1 crc $P ?O2 application $P ?k2 refused #n
 W write type #A2 version #B1 flags #C1 number #D4 time #E4 ?unaddressed | ttl #G2 qos #H2 . source @Iw/destination destination @Jw/body body @Kw/integrity integrity #K4 room #Lr =?k01 wrote #v ?k3 refused #n ? [ ! ~]
 X rewrite room #Lr of @Am =?k01 wrote #v ?k2 unread #n ?k3 refused #n ? [ ! ~]
-q qos ?join #A1 #B1 #C1 #D1 #E1 | split #A2 . =?k01 #v ?k3 refused #n ?F1 #A #B #C #D
-l late flags #C1 time #E4 ?unaddressed | ttl #G2 . clock #H8 =?c0 in time ?c1 late ?c2 no clock
-n sequence from #A4 to #B4 =?c0 repeat ?c1 next ?c2 ahead #v ?c3 behind #v
+c qos ?join #A1 #B1 #C1 #D1 #E1 | split #A2 . =?k01 #v ?k3 refused #n ?F1 #A #B #C #D
+d late flags #C1 time #E4 ?unaddressed | ttl #G2 . clock #H8 =?c0 in time ?c1 late ?c2 no clock
+e sequence from #A4 to #B4 =?c0 repeat ?c1 next ?c2 ahead #v ?c3 behind #v
 Y make room #Lr of @Am =?k0 made ?k3 refused #n #r ? [ ! ~]
-C check =?k0 records #c ?k3 record #c refused #n #r
-F find type #A2 number #B4 =?k01 record #v ?k3 refused #n #r ? opened #c
-S step at #A8 =?k0 end ?k1 message #A #B ?k3 refused #n #r ? next #C
-V walk =?k0 end ?k1 message #A #B ?k3 refused #n #r ?D1 ~,
-D compare record #A8 list +Kl/with with @Cm =?k0 same ?k1 different #v ?k3 refused #n #r ? list
+A check =?k0 records #c ?k3 record #c refused #n #r
+B find type #A2 number #B4 =?k01 record #v ?k3 refused #n #r ? opened #c
+C step at #A8 =?k0 end ?k1 message #A #B ?k3 refused #n #r ? next #C
+D walk =?k0 end ?k1 message #A #B ?k3 refused #n #r ?D1 ~,
+p compare record #A8 list +Kl/with with @Cm =?k0 same ?k1 different #v ?k3 refused #n #r ? list
 E entry at #A8 =?k0 #A #B #C ?k3 refused #n #r
-L list =?E47 #F ?E4 #A #B #C ?E37 refused #n #r ?E0 records #c ?D1 ~;
+F list =?E47 #F ?E4 #A #B #C ?E37 refused #n #r ?E0 records #c ?D1 ~;
 0 edits record #A8 =?k1 edited #A refused #B ?k03 no message
 1 flips record #A8 =?k1 flipped #A refused #B ?k03 no message
 2 pairs record #A8 =?k1 flipped #A refused #B ?k03 no message
@@ -184,12 +184,13 @@ fn run_read(
     }
 }
 
+// The letters of the rows are such that those of a module stand together: digits, capitals from P on, small letters, small ones from p on, and capitals.
 fn answer(code: u8, template: &[u8], numbers: &mut [u64; 16], memory: &mut [u8; MEMORY]) {
-    match code {
-        b'a'..=b'z' => envelope_line(code, template, numbers, memory),
-        b'0'..=b'2' => series_line(code, template, numbers, memory),
-        b'D' => compare_line(template, numbers, memory),
-        b'W'..=b'Y' => lent_line(code, template, numbers, memory),
+    match code / 16 {
+        3 => series_line(code, template, numbers, memory),
+        5 => lent_line(code, template, numbers, memory),
+        6 => envelope_line(code, template, numbers, memory),
+        7 => compare_line(template, numbers, memory),
         _ => {
             let used = place_at(numbers, USED);
             golden_line(code, template, numbers, between(memory, 0, used))

@@ -39,10 +39,10 @@ pub fn envelope_line(code: u8, template: &[u8], numbers: &mut [u64; 16], memory:
 
 fn envelope_answer(code: u8, message: &[u8], numbers: &mut [u64; 16]) -> u64 {
     match code {
-        b's' => summed(message, numbers),
-        b'r' => read(message, numbers),
-        b'q' => qos(numbers),
-        b'l' => late(numbers),
+        b'a' => summed(message, numbers),
+        b'b' => read(message, numbers),
+        b'c' => qos(numbers),
+        b'd' => late(numbers),
         _ => morlewen_sequence(four_at(numbers, 0), four_at(numbers, 1)),
     }
 }

@@ -1,7 +1,5 @@
 // The lines that build the golden file that is worked on. Nothing is judged here.
 // Rests on `byte_words`.
-use crate::byte_words::ZEROS;
-use crate::byte_words::fill;
 use crate::byte_words::push;
 use crate::numbers::BEGUN;
 use crate::numbers::CHOICE;
@@ -55,6 +53,7 @@ fn told(choice: u64, line: u64, now: usize) {
     text(b" bytes\n");
 }
 
+// Behind the memory's end stand zeros, for `carry`.
 fn changed(
     choice: u64,
     given: usize,
@@ -66,7 +65,7 @@ fn changed(
     match choice {
         A_RECORD => record_added(begun, size, used, memory),
         SOME_BYTES => carry(begun, size, used, memory),
-        SOME_ZEROS => fill(b"", ZEROS, given, used, memory),
+        SOME_ZEROS => carry(MEMORY, given, used, memory),
         A_CHANGE => {
             carry(begun, size, given, memory);
             used
@@ -78,11 +77,10 @@ fn changed(
 
 // The stored length, the message, and zeros.
 fn record_added(begun: usize, size: usize, used: usize, memory: &mut [u8]) -> usize {
-    let end = fill(b"", ZEROS, 512, used, memory);
     let low = push((size / 256 % 256) as u8, used, memory);
     let first = push((size % 256) as u8, low, memory);
-    carry(begun, size, first, memory);
-    end
+    let rest = carry(begun, size, first, memory);
+    carry(MEMORY, wrapping_sub_usize(510, size), rest, memory)
 }
 
 // Copies bytes of the memory to another place.

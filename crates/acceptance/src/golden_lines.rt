@@ -41,9 +41,9 @@ pub fn golden_line(code: u8, template: &[u8], numbers: &mut [u64; 16], file: &[u
 fn golden_answer(code: u8, template: &[u8], numbers: &mut [u64; 16], file: &[u8]) -> u64 {
     let record = place_at(numbers, 0);
     match code {
-        b'C' => morlewen_check(file),
-        b'F' => morlewen_find(file, two_at(numbers, 0), four_at(numbers, 1)),
-        b'S' => step(file, record, numbers),
+        b'A' => morlewen_check(file),
+        b'B' => morlewen_find(file, two_at(numbers, 0), four_at(numbers, 1)),
+        b'C' => step(file, record, numbers),
         b'E' => entry(file, record, numbers),
         _ => each(code, template, file, numbers),
     }
@@ -89,7 +89,7 @@ fn each(code: u8, template: &[u8], file: &[u8], numbers: &mut [u64; 16]) -> u64 
 
 fn one_of(code: u8, file: &[u8], turn: usize, numbers: &mut [u64; 16]) -> u64 {
     match code {
-        b'V' => step(file, turn, numbers),
+        b'D' => step(file, turn, numbers),
         _ => listed(file, turn, numbers),
     }
 }
