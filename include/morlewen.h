@@ -1,4 +1,4 @@
-/* Morlewen: EMP envelopes (AAR S-9354) and golden files of reference messages, for C and C++.
+/* Morlewen: EMP envelopes (AAR S-9354), golden files of reference messages, and messages as they arrive, for C and C++.
  *
  * Link libexports.a (README.md says how it is built). Each function is proved to give the one answer told here, for any
  * input, and to end; none allocates, prints, keeps state or touches a file, so all may be called from several threads.
@@ -9,7 +9,7 @@
  *   - what is lent to be written overlaps nothing else that is lent in the same call.
  * Any content, any length and any number is fine.
  *
- * THE ANSWER. A function that can refuse, or that has two things to tell, returns one 64-bit number of four slots:
+ * THE ANSWER. A function that can refuse, has two things to tell, or tells a size returns one 64-bit number of four slots:
  *
  *   bits  0-7   number    0: done. Otherwise the refusal, by the numbers below.
  *   bits  8-15  reading   with 25, 31 and 34 the number (1-7) that reading gave; otherwise 0.
@@ -17,7 +17,8 @@
  *   bits 32-63  value     done: a length, a total, or what else a function says; otherwise 0.
  *                         refused: kept for a place in the message; 0 in this version.
  *
- * A refusal writes nothing: every buffer, array and list that was lent holds what it held before the call. */
+ * A refusal writes nothing: every buffer, array and list that was lent holds what it held before the call. A feed is no such
+ * buffer: it is the state that morlewen_feed_take and morlewen_feed_end move on, and they say to what. */
 #ifndef MORLEWEN_H
 #define MORLEWEN_H
 
@@ -33,7 +34,7 @@ static inline unsigned morlewen_reading(uint64_t answer) { return (unsigned)(ans
 static inline unsigned morlewen_count(uint64_t answer) { return (unsigned)(answer >> 16 & 0xffff); }
 static inline uint32_t morlewen_value(uint64_t answer) { return (uint32_t)(answer >> 32); }
 
-/* The refusals. Where several apply, the one that stands first here is given. */
+/* The refusals. Where several apply, the one that stands first here is given; by a feed the one that its bytes settle first. */
 enum {
     MORLEWEN_DONE = 0,
     /* reading a message */
@@ -63,7 +64,10 @@ enum {
     MORLEWEN_MESSAGE_UNREAD = 34,   /* reading refuses that message; the slot `reading` says why */
     MORLEWEN_WRONG_BUFFER = 35,     /* the buffer for a record is not 512 bytes */
     /* QoS */
-    MORLEWEN_QOS_DOES_NOT_FIT = 41  /* one of the five numbers does not fit its bits */
+    MORLEWEN_QOS_DOES_NOT_FIT = 41, /* one of the five numbers does not fit its bits */
+    /* messages as they arrive */
+    MORLEWEN_FEED_TOO_LONG = 51,    /* the announced length is over 510 bytes */
+    MORLEWEN_FEED_CUT = 52          /* the end came inside a message */
 };
 
 enum {
@@ -190,6 +194,53 @@ uint64_t morlewen_compare(const uint8_t *file, size_t length, size_t record, con
 
 /* Makes a record of a message: 512 bytes into the buffer. Refused: 33 to 35. */
 uint64_t morlewen_make(const uint8_t *message, size_t length, uint8_t *buffer, size_t room);
+
+/* ---- Messages as they arrive ----
+ * A feed is storage that the caller owns: the bytes kept of the message that is on its way, and two numbers. All zeros is a
+ * new feed, and any other content is some feed too. It takes messages of at most 510 bytes. */
+
+enum {
+    MORLEWEN_FEED_COUNT = 0,    /* how many bytes, at the front of those kept, belong to the message */
+    MORLEWEN_FEED_STANDING = 1, /* how the feed stands */
+    MORLEWEN_FEED_NUMBERS = 2,
+    MORLEWEN_FEED_ROOM = 510
+};
+
+/* How a feed stands. 1 to 7, 51 and 52: refused, by that number. 0: inside a message, of which so many bytes are in, or between
+ * messages with none; a MORLEWEN_FEED_COUNT of 510 or more stands for none. 255: the message is whole. Any other number stands
+ * for 255, and morlewen_feed_take and morlewen_feed_end put 255 in its place, also where nothing else changes. */
+enum { MORLEWEN_FEED_INSIDE = 0, MORLEWEN_FEED_WHOLE = 255 };
+
+typedef struct {
+    uint64_t numbers[MORLEWEN_FEED_NUMBERS];
+    uint8_t kept[MORLEWEN_FEED_ROOM];
+} morlewen_feed;
+
+/* Takes a piece: uses its bytes until a message is complete, something is refused, or the piece is used up. The slot `count` is
+ * how many bytes were used, whatever the answer; what is left of the piece goes into the next call. Bytes go to their places among
+ * those kept, and the others there stay.
+ * Done: `value` is the size of the message found, its bytes are the first of those kept until the next byte or a restart, and
+ * every one of the sixteen fields is written as morlewen_read would; or `value` is 0: none yet, and `fields` is as it was.
+ * Refused: with the 17th byte of a message 2, 3, 4 or 51; with the last byte of the announced length 6 or 7. That byte is the
+ * last one used, MORLEWEN_FEED_COUNT bytes are in with it, and `fields` is as it was. The refusal stands: each later call, of
+ * morlewen_feed_end too, uses nothing, changes nothing and answers it again, until morlewen_feed_restart. An empty piece uses
+ * nothing, and changes nothing but a number that stands for 255.
+ * In storage that no calls lead to, 17 bytes or more may be in that are refused already, or are complete already: then the next
+ * byte settles it, by 2, 3, 4, 51, or by what morlewen_read answers to all the bytes that are in, 5 among that. */
+uint64_t morlewen_feed_take(uint8_t kept[MORLEWEN_FEED_ROOM], uint64_t numbers[MORLEWEN_FEED_NUMBERS],
+                            const uint8_t *piece, size_t length, uint64_t fields[MORLEWEN_FIELDS]);
+
+/* The end of the bytes. Done: no byte of a further message is in (a new feed, or right after a message), and nothing changes but
+ * a number that stands for 255. Refused: 52 inside a message, which then stands, or the refusal that stands already. The bytes
+ * kept stay as they are, and how many are in too. */
+uint64_t morlewen_feed_end(uint64_t numbers[MORLEWEN_FEED_NUMBERS]);
+
+/* Makes the feed a new one, whatever it was: all zeros. */
+void morlewen_feed_restart(uint8_t kept[MORLEWEN_FEED_ROOM], uint64_t numbers[MORLEWEN_FEED_NUMBERS]);
+
+/* The message that was found, at the front of the bytes kept until the next byte or a restart: `value` is its size, or 0 where no
+ * message is whole. A MORLEWEN_FEED_COUNT over 510 stands for 510. Never refused. */
+uint64_t morlewen_feed_message(const uint8_t kept[MORLEWEN_FEED_ROOM], const uint64_t numbers[MORLEWEN_FEED_NUMBERS]);
 
 #ifdef __cplusplus
 }

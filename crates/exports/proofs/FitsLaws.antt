@@ -1,7 +1,7 @@
 -- Each answer fits its slots, by the sizes that the layers below promise; and the slots come back from the word.
--- The laws of sizes are those of `envelope` and `golden`; here they are only read in slots.
+-- The laws of sizes are those of the layers below; here they are only read in slots.
 use mathlib.Core.List.{List}
-use mathlib.Core.Path.{_≡_}
+use mathlib.Core.Path.{_≡_, refl}
 use Prim.Native.Nat.{ℕ, _+_, _*_, _/_, _%_, _≤_, _<_, _^_}
 use native.Mathlib.Omega.{arith}
 use Rattle.envelope.specs.Layout.{largestMessage}
@@ -11,6 +11,10 @@ use Rattle.envelope.specs.Message.{Given}
 use Rattle.envelope.specs.Promise.{Bytes}
 use Rattle.envelope.specs.Writing.{WriteAnswer, wrote, barred, writing, wroteLength}
 use Rattle.envelope.specs.Writing as write
+use Rattle.feed.specs.Feeding.{State, Finding, nothing, Outcome, ending}
+use Rattle.feed.specs.Feeding as feed
+use Rattle.feed.specs.Messages.{foundSize, Few}
+use Rattle.feed.proofs.FewLaws.{end-finds-no-message}
 use Rattle.golden.specs.Checking.{CheckAnswer, counted, refused, checking}
 use Rattle.golden.specs.Comparing.{CompareAnswer, same, different, unlike, comparing, answerOf}
 use Rattle.golden.specs.File.{mostRecords}
@@ -26,6 +30,7 @@ use Rattle.envelope.proofs.RewriteLaws.{rewrites-no-longer}
 use Rattle.envelope.proofs.WriteLaws.{writes-no-longer}
 use Rattle.golden.proofs.FewLaws.{check-names-few, count-is-few, find-opens-few, step-reaches-short, compare-totals-few}
 use Rattle.exports.specs.Envelopes.{writeSlots, rewriteSlots}
+use Rattle.exports.specs.Feeds.{foundSlots}
 use Rattle.exports.specs.Goldens.{countSlots, checkSlots, findSlots, stepSlots, compareSlots}
 use Rattle.exports.specs.Word.{word, WordTellsItsSlots}
 
@@ -83,6 +88,17 @@ compare-in (unlike r) h = omega arith
 pub compare-fits : (f : List ℕ) (n : ℕ) (radio : List ℕ) (a : CompareAnswer) → Bytes radio → a ≡ answerOf (comparing f n radio)
     → compareSlots a .value < 2 ^ 32
 compare-fits f n radio a bytes e = rw e (compare-in (answerOf (comparing f n radio)) (compare-totals-few f n radio bytes))
+
+found-value : (a : Finding) (used : ℕ) → foundSlots a used .value ≡ foundSize a
+found-value nothing used = refl
+found-value (feed.message n f) used = refl
+found-value (feed.refusal f) used = refl
+
+pub take-fits : (o : Outcome) → Few o → (o .used < 2 ^ 16) × (foundSlots (o .finding) (o .used) .value < 2 ^ 32)
+take-fits o few = (omega (arith, few .used), omega (arith, few .size, found-value (o .finding) (o .used)))
+
+pub end-fits : (s : State) (o : Outcome) → o ≡ ending s → foundSlots (o .finding) 0 .value < 2 ^ 32
+end-fits s o e = rw e (omega (arith, end-finds-no-message s, found-value (ending s .finding) 0))
 
 -- ---- the slots come back
 

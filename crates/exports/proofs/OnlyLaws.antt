@@ -1,6 +1,6 @@
 -- One answer alone keeps each promise of the C interface, and one later content of what is lent.
 -- Each promise says outright what the two are.
-use mathlib.Core.List.{List}
+use mathlib.Core.List.{List, []}
 use mathlib.Core.Path.{_≡_, sym, _∙_}
 use Prim.Native.Nat.{ℕ}
 use Rattle.envelope.specs.Message.{Given}
@@ -8,6 +8,7 @@ use Rattle.envelope.specs.Promise.{Only₁, Only₂}
 use Rattle.envelope.specs.Qos.{QosFields}
 use Rattle.golden.specs.Finding.{NameFields}
 use Rattle.exports.specs.Envelopes.{ReadsForC, WritesForC, RewritesForC, SplitsForC, JoinsForC, JudgesLatenessForC, JudgesSequenceForC}
+use Rattle.exports.specs.Feeds.{Lent, TakesForC, EndsForC, RestartsForC, HoldsForC}
 use Rattle.exports.specs.Goldens.{CountsForC, ChecksForC, FindsForC, EntersForC, StepsForC, ComparesForC, MakesForC}
 
 only-that : {A : Type 0} (x : A) → Only₁ (λ (r : A). r ≡ x)
@@ -57,3 +58,16 @@ only-compares-for-c f n radio entry = only-those _ _
 
 pub only-makes-for-c : (m entry : List ℕ) → Only₂ (MakesForC m entry)
 only-makes-for-c m entry = only-those _ _
+
+pub only-takes-for-c : (entry : Lent) (piece : List ℕ) → Only₂ (TakesForC entry piece)
+only-takes-for-c entry piece = only-those _ _
+
+-- the bytes kept may be any, so none do
+pub only-ends-for-c : (entry : List ℕ) → Only₂ (EndsForC entry)
+only-ends-for-c entry a b x y p q = only-those _ _ a b x y (p []) (q [])
+
+pub only-restarts-for-c : Only₂ RestartsForC
+only-restarts-for-c = only-those _ _
+
+pub only-holds-for-c : (kept numbers : List ℕ) → Only₁ (HoldsForC kept numbers)
+only-holds-for-c kept numbers = only-that _

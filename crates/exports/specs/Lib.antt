@@ -1,4 +1,5 @@
 pub mod Word
 pub mod Envelopes
 pub mod Goldens
+pub mod Feeds
 pub mod Helpers

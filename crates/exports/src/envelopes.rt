@@ -110,7 +110,7 @@ fn put_fields(reading: Reading, fields: &mut [u64; FIELDS])
     }
 }
 
-fn numbers_of(accepted: Envelope) -> [u64; FIELDS]
+pub(crate) fn numbers_of(accepted: Envelope) -> [u64; FIELDS]
     ensures { λ r. ⌜ r ≡ fieldNumbers (toldEnvelope accepted) ⌝ }
 {
     let addressing = accepted.addressing;

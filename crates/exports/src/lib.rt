@@ -1,7 +1,8 @@
-// The public operations of the three layers, in numbers and slices, for programs in C and Rust (include/morlewen.h).
-// Rests on the crates `sum`, `envelope` and `golden`, by their promises and the laws that they export.
+// The public operations of the layers below, in numbers and slices, for programs in C and Rust (include/morlewen.h).
+// Rests on the crates `sum`, `envelope`, `golden` and `feed`, by their promises and the laws that they export.
 mod answers;
 pub mod envelopes;
+pub mod feeds;
 pub mod goldens;
 pub mod qos;
 pub mod sums;

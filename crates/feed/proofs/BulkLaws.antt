@@ -13,7 +13,7 @@ use Rattle.envelope.specs.Fields.{Answer, accepted, refused as unread}
 use Rattle.envelope.specs.Layout.{headerSize}
 use Rattle.envelope.specs.Reading.{reading}
 use Rattle.feed.specs.Feeding.{Outcome, closing, furtherBy, nothing, taking}
-use Rattle.feed.specs.Helpers.{opened, outcomeAt, Stretch, Announced}
+use Rattle.feed.specs.Helpers.{opened, outcomeAt, Expected, none, announced, Stretch, Announced}
 use Rattle.feed.specs.Verdict.{room, FeedFault, Verdict, more, bad, settled, verdict}
 use Rattle.feed.proofs.TakingLaws.{onFrom, Known, up-to-heading, up-to-announced, up-to-one}
 use Rattle.feed.proofs.VerdictLaws.{verdict-more, verdict-whole, announcing-laid}
@@ -123,3 +123,23 @@ fill-whole k rest n w used ok hw h b =
     ∙ ap₂ (λ (m u : ℕ). outcomeAt g m u left) end size in
     ap (furtherBy nothing (closing more k n used)) (whole-at g w (w - n) left w says hw (omega arith) (omega (arith, length-sets k n part, ok .roomy)) ∙ sym taken)
     ∙ sym (outcome-by k n used rest more (short-front k n w ok hw h))
+
+-- ---- past the heading
+
+-- what was expected when bytes are missing
+pub record Awaited (k : List ℕ) (n w : ℕ) : Type 0 where
+  pub says : announcing (take n k) ≡ announces w
+  pub short : w ≤ room
+
+pub awaited : (k : List ℕ) (n w : ℕ) → Expected k n w → n < w → Awaited k n w
+awaited k n w none h = absurd (omega arith)
+awaited k n w (announced e s) h = record { says = e; short = s }
+
+-- nothing was used yet, and what is in settles nothing
+pub none-used : (k piece : List ℕ) (n w : ℕ) → length k ≡ room → n < room → Awaited k n w → n < w → outcomeAt k n 0 piece ≡ taking (opened k n) piece
+none-used k piece n w hk h a m =
+    let fits : n ≤ length k = omega arith in
+    let quiet = verdict-more (take n k) w (a .says) (a .short) (omega (arith, length-take-le n k fits)) in
+    let o = taking (opened k n) piece in
+    let all : 0 + o .used ≡ o .used = omega arith in
+    outcome-by k n 0 piece more quiet ∙ (λ i. record { state = o .state; used = all i; finding = o .finding })

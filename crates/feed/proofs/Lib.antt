@@ -10,5 +10,6 @@ pub mod SettlingLaws
 pub mod WeighedLaws
 pub mod FoundLaws
 pub mod RefusedLaws
+pub mod FewLaws
 pub mod StopLaws
 pub mod BitsLaws

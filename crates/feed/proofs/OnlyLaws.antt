@@ -45,12 +45,12 @@ untoldFeed s = record { kept = s .kept; count = s .count; standing = untoldStand
 pub untold-feed : (f : Feed) → untoldFeed (toldFeed f) ≡ f
 untold-feed f = λ i. record { kept = f .kept; count = f .count; standing = untold-standing (f .standing) i }
 
-abbrev untoldFound : Finding → Found
+abbrev pub untoldFound : Finding → Found
 untoldFound nothing = Nothing
 untoldFound (message n f) = Message n (untoldEnvelope f)
 untoldFound (refusal f) = Barred (untoldFeedFault f)
 
-untold-found : (f : Found) → untoldFound (toldFound f) ≡ f
+pub untold-found : (f : Found) → untoldFound (toldFound f) ≡ f
 untold-found Nothing = refl
 untold-found (Message n e) = ap (Message n) (untold-envelope e)
 untold-found (Barred f) = ap Barred (untold-feed-fault f)

@@ -28,13 +28,13 @@ use Rattle.feed.proofs.WeighedLaws.{bad-not-complete, more-not-bad, sam
 -- ---- where a refusal is told
 
 -- what was expected when nothing was settled yet
-record Expects (p : List ℕ) : Type 0 where
-  whole : ℕ
-  says : announcing p ≡ announces whole
-  fits : whole ≤ room
-  missing : length p < whole
+pub record Expects (p : List ℕ) : Type 0 where
+  pub whole : ℕ
+  pub says : announcing p ≡ announces whole
+  pub fits : whole ≤ room
+  pub missing : length p < whole
 
-expects : (p : List ℕ) → verdict p ≡ more → headerSize ≤ length p → Expects p
+pub expects : (p : List ℕ) → verdict p ≡ more → headerSize ≤ length p → Expects p
 expects p v h = go (announcing p) refl
   where
     by : (w : ℕ) → announcing p ≡ announces w → Weighed p w → Expects p
@@ -117,7 +117,7 @@ record Sound (s : State) : Type 0 where
 inside-not-refused : (f : FeedFault) → inside ≡ refused f → ⊥
 inside-not-refused f e = let z : _≡_ {A = ℕ} 0 1 = cc in omega arith
 
-whole-not-refused : (f : FeedFault) → whole ≡ refused f → ⊥
+pub whole-not-refused : (f : FeedFault) → whole ≡ refused f → ⊥
 whole-not-refused f e = let z : _≡_ {A = ℕ} 0 1 = cc in omega arith
 
 same-refused : (f g : FeedFault) → refused f ≡ refused g → f ≡ g

@@ -9,7 +9,7 @@ use borrow.Author.Tests.{lt-ltb, ltb-true}
 use lib.Dec.{ltb}
 use lib.ListN.{length}
 use Rattle.feed.specs.Feeding.{Stand, inside, whole, refused, State, begunBy, begun, refusal, Outcome, withByte, standing, still, byStand, byteIn, furtherBy, taking, ending, endBy}
-use Rattle.feed.specs.Helpers.{opened}
+use Rattle.feed.specs.Helpers.{opened, goesOn}
 use Rattle.feed.specs.Verdict.{room, FeedFault, cut}
 
 -- ---- nothing is used
@@ -70,31 +70,52 @@ same-begun s t (x ∷ l) e k h =
     ap (λ (o : Outcome). furtherBy (o .finding) o (taking (o .state) l))
     (open-byte (s .kept) (begunBy t (s .count)) x (begun-room t (s .count)) ∙ sym (byte-goes-in s t x e k))
 
+-- by whether the next byte goes in
+pub shut-takes : (s : State) (piece : List ℕ) → goesOn (s .stand) ≡ false → still s ≡ taking s piece
+shut-takes s piece e = go (s .stand) refl e
+  where
+    go : (t : Stand) → s .stand ≡ t → goesOn t ≡ false → still s ≡ taking s piece
+    go inside q b = absurd (let z : _≡_ {A = ℕ} 0 1 = cc in omega arith)
+    go whole q b = absurd (let z : _≡_ {A = ℕ} 0 1 = cc in omega arith)
+    go (refused f) q b = refused-takes s f piece q
+
+pub open-takes : (s : State) (piece : List ℕ) → goesOn (s .stand) ≡ true → 0 < length piece → taking (opened (s .kept) (begun s)) piece ≡ taking s piece
+open-takes s piece e h = go (s .stand) refl e
+  where
+    go : (t : Stand) → s .stand ≡ t → goesOn t ≡ true → taking (opened (s .kept) (begunBy (s .stand) (s .count))) piece ≡ taking s piece
+    go inside q b = ap (λ (t : Stand). taking (opened (s .kept) (begunBy t (s .count))) piece) q ∙ same-begun s inside piece q goes-on h
+    go whole q b = ap (λ (t : Stand). taking (opened (s .kept) (begunBy t (s .count))) piece) q ∙ same-begun s whole piece q anew h
+    go (refused f) q b = absurd (let z : _≡_ {A = ℕ} 0 1 = cc in omega arith)
+
 -- ---- the end
 
-ending-by : (s : State) (t : Stand) (m : ℕ) → s .stand ≡ t → begunBy t (s .count) ≡ m → ending s ≡ endBy t m s
+end-none-by : (t : Stand) (m : ℕ) (s : State) → m ≡ 0 → endBy t m s ≡ still s
+end-none-by inside zero s e = refl
+end-none-by inside (suc n) s e = absurd (omega arith)
+end-none-by whole m s e = refl
+end-none-by (refused f) m s e = refl
+
+-- no byte of the next message is in
+pub end-none : (s : State) → begun s ≡ 0 → ending s ≡ still s
 unfolding ending
-ending-by s t m e q = ap (λ (u : Stand). endBy u (begunBy u (s .count)) s) e ∙ ap (λ (n : ℕ). endBy t n s) q
-
-pub end-refused : (s : State) (f : FeedFault) → s .stand ≡ refused f → ending s ≡ still s
-end-refused s f e = ending-by s (refused f) 0 e refl
-
-pub end-whole : (s : State) → s .stand ≡ whole → ending s ≡ still s
-end-whole s e = ending-by s whole 0 e refl
-
-pub end-between : (s : State) → s .stand ≡ inside → begunBy inside (s .count) ≡ 0 → ending s ≡ still s
-end-between s e q = ending-by s inside 0 e q
+end-none s e = end-none-by (s .stand) (begun s) s e
 
 -- the state with 52
 abbrev pub cutShort : State → Outcome
 cutShort s = record { state = record { kept = s .kept; count = s .count; stand = refused cut }; used = 0; finding = refusal cut }
 
-cuts : (s : State) (m : ℕ) → (m ≡ 0 → ⊥) → endBy inside m s ≡ cutShort s
-cuts s zero h = absurd (h refl)
-cuts s (suc n) h = refl
+end-some-by : (t : Stand) (n : ℕ) (s : State) → (begunBy t n ≡ 0 → ⊥) → endBy t (begunBy t n) s ≡ cutShort s
+end-some-by inside n s h = go (begunBy inside n) h
+  where
+    go : (m : ℕ) → (m ≡ 0 → ⊥) → endBy inside m s ≡ cutShort s
+    go zero h = absurd (h refl)
+    go (suc m) h = refl
+end-some-by whole n s h = absurd (h refl)
+end-some-by (refused f) n s h = absurd (h refl)
 
-pub end-inside : (s : State) → s .stand ≡ inside → (begunBy inside (s .count) ≡ 0 → ⊥) → ending s ≡ cutShort s
-end-inside s e q = ending-by s inside (begunBy inside (s .count)) e refl ∙ cuts s (begunBy inside (s .count)) q
+pub end-some : (s : State) → (begun s ≡ 0 → ⊥) → ending s ≡ cutShort s
+unfolding ending
+end-some s h = end-some-by (s .stand) (s .count) s h
 
 -- no byte is used by an end
 abbrev unused : Outcome → Outcome

@@ -4,16 +4,17 @@ use mathlib.Core.List.{List, [], _∷_}
 use mathlib.Core.Path.{_≡_, refl, ap, sym, _∙_, subst}
 use Prim.Native.Nat.{ℕ, zero, suc, _<_}
 use native.Mathlib.Omega.{arith}
-use Rattle.feed.specs.Feeding.{Stand, inside, whole, refused, State, begunBy, begun, nothing, refusal, Outcome, closing, findingBy, standing, still, furtherBy, taking, ending, endBy}
-use Rattle.feed.specs.Stopping.{RefusalIsKept, EndIsKept, RefusalStands, RestartIsNew, EmptyPiece, EndBetween, EndInside}
+use Rattle.feed.specs.Feeding.{Stand, inside, whole, refused, State, begunBy, begun, Finding, nothing, refusal, Outcome, closing, findingBy, standing, still, furtherBy, taking, ending, endBy}
+use Rattle.feed.specs.Stopping.{RefusalIsKept, RefusalIsTold, EndIsKept, RefusalStands, RestartIsNew, EmptyPiece, EndBetween, EndInside}
 use Rattle.feed.specs.Told.{toldFault, toldStanding, toldFeed, toldFound, toldTaken, toldEnded}
 use Rattle.feed.specs.Verdict.{FeedFault, Verdict, more, complete, bad}
 use Rattle.feed.specs.declared.fault.Fault.the-variants.{Cut}
 use Rattle.feed.specs.declared.step.Found.the-variants.{Nothing, Refused as Barred}
 use Rattle.feed.specs.declared.step.Standing.the-variants.{Refused}
-use Rattle.feed.proofs.OnlyLaws.{untold-standing, untoldStanding, untold-feed-fault, same-feed, only-fresh, only-takes, only-ends}
+use Rattle.feed.proofs.OnlyLaws.{untold-standing, untoldStanding, untoldFound, untold-found, untold-feed-fault, same-feed, only-fresh, only-takes, only-ends}
+use Rattle.feed.proofs.RefusedLaws.{whole-not-refused}
 use Rattle.feed.proofs.RunLaws.{Byte, repeats, goes-in, byte}
-use Rattle.feed.proofs.StandLaws.{still-as, refused-takes, end-refused, end-whole, end-between, end-inside, cutShort}
+use Rattle.feed.proofs.StandLaws.{still-as, refused-takes, end-none, end-some}
 use Rattle.feed.proofs.TakingLaws.{taking-nil, taking-cons}
 use Rattle.feed.proofs.UseLaws.{refusal-not-nothing}
 
@@ -69,6 +70,31 @@ end-is-kept f fault t p e =
     subst (λ (o : Outcome). Stands o (toldFault fault)) (sym p) (ending-stands (toldFeed f) (toldFault fault)) in
     sym (untold-standing (t .feed .standing)) ∙ ap untoldStanding (stands (ap toldFound e)) ∙ ap Refused (untold-feed-fault fault)
 
+-- ---- and one that stands was told
+
+abbrev Tells : Outcome → FeedFault → Type 0
+Tells o f = o .state .stand ≡ refused f → o .finding ≡ refusal f
+
+closing-tells : (v : Verdict) (k : List ℕ) (n : ℕ) (f : FeedFault) (later : Outcome) → Tells later f
+    → Tells (furtherBy (findingBy v n) (closing v k n 1) later) f
+closing-tells more k n f later h = h
+closing-tells (complete g) k n f later h = λ e. absurd (whole-not-refused f e)
+closing-tells (bad g) k n f later h = λ e. ap standing e
+
+taking-tells : (piece : List ℕ) (s : State) (f : FeedFault) → Tells (taking s piece) f
+taking-tells [] s f = rw (taking-nil s) (λ e. ap standing e)
+taking-tells (x ∷ l) s f = go (λ t. taking-tells l t f) (byte s x)
+  where
+    go : ((t : State) → Tells (taking t l) f) → Byte s x → Tells (taking s (x ∷ l)) f
+    go later (repeats g e b) = rw (← refused-takes s g (x ∷ l) e) (λ z. ap standing z)
+    go later (goes-in v q b o) = rw (taking-cons s x l _ b) (closing-tells v _ _ f _ (later _))
+
+pub refusal-is-told : RefusalIsTold
+refusal-is-told f fault piece t p e =
+    let tells : Tells (toldTaken t) (toldFault fault) =
+    subst (λ (o : Outcome). Tells o (toldFault fault)) (sym p) (taking-tells piece (toldFeed f) (toldFault fault)) in
+    sym (untold-found (t .found)) ∙ ap untoldFound (tells (ap toldStanding e)) ∙ ap Barred (untold-feed-fault fault)
+
 -- ---- while it stands
 
 pub refusal-stands : RefusalStands
@@ -76,7 +102,7 @@ refusal-stands f fault piece t e r p q =
     let stands : toldStanding (f .standing) ≡ refused (toldFault fault) = ap toldStanding r in
     let repeated = still-as (toldFeed f) (refused (toldFault fault)) stands in (
       only-takes f piece t (record { feed = f; used = 0; found = Barred fault }) p (sym repeated ∙ refused-takes (toldFeed f) (toldFault fault) piece stands),
-      only-ends f e (record { feed = f; found = Barred fault }) q (sym repeated ∙ sym (end-refused (toldFeed f) (toldFault fault) stands)),
+      only-ends f e (record { feed = f; found = Barred fault }) q (sym repeated ∙ sym (end-none (toldFeed f) (ap (λ (t : Stand). begunBy t (f .count)) stands))),
     )
 
 pub restart-is-new : RestartIsNew
@@ -89,21 +115,13 @@ empty-piece f t p =
 
 -- ---- the end
 
-end-nothing : (s : State) (t : Stand) → s .stand ≡ t → standing t ≡ nothing → begunBy t (s .count) ≡ 0
-    → ending s ≡ record { state = s; used = 0; finding = nothing }
-end-nothing s inside e g z = end-between s e z ∙ still-as s inside e
-end-nothing s whole e g z = end-whole s e ∙ still-as s whole e
-end-nothing s (refused f) e g z = absurd (refusal-not-nothing f g)
+end-nothing : (s : State) → standing (s .stand) ≡ nothing → begun s ≡ 0 → ending s ≡ record { state = s; used = 0; finding = nothing }
+end-nothing s g z = end-none s z ∙ ap (λ (f : Finding). record { state = s; used = 0; finding = f }) g
 
 pub ends-between : EndBetween
-ends-between f e p w = only-ends f e (record { feed = f; found = Nothing }) p (sym (end-nothing (toldFeed f) _ refl (w .going) (w .none)))
-
-end-cuts : (s : State) (t : Stand) → s .stand ≡ t → 0 < begunBy t (s .count) → ending s ≡ cutShort s
-end-cuts s inside e h = end-inside s e (λ z. absurd (omega arith))
-end-cuts s whole e h = absurd (omega arith)
-end-cuts s (refused f) e h = absurd (omega arith)
+ends-between f e p w = only-ends f e (record { feed = f; found = Nothing }) p (sym (end-nothing (toldFeed f) (w .going) (w .none)))
 
 pub ends-inside : EndInside
 ends-inside f e p h =
     only-ends f e (record { feed = record { kept = f .kept; count = f .count; standing = Refused Cut }; found = Barred Cut }) p
-    (sym (end-cuts (toldFeed f) _ refl h))
+    (sym (end-some (toldFeed f) (λ z. absurd (omega arith))))

@@ -1,6 +1,7 @@
 -- Meanings of the private helpers. Nothing that a public promise says is defined here.
 -- `kept` is the room, n of its bytes are in.
 use Prim.Native.Nat.{ℕ, _+_, _≤_, _<_}
+use mathlib.Core.Bool.{Bool, true, false}
 use mathlib.Core.List.{List}
 use mathlib.Core.Logic.{_⊎_}
 use mathlib.Core.Path.{_≡_}
@@ -8,13 +9,19 @@ use lib.ListN.{take}
 use lib.Seq.{sets}
 use Rattle.envelope.specs.Announcing.{announces, announcing}
 use Rattle.envelope.specs.Layout.{headerSize}
-use Rattle.feed.specs.Feeding.{Stand, inside, State, Finding, Outcome, standBy, findingBy, closing, standing, furtherBy, taking}
+use Rattle.feed.specs.Feeding.{Stand, inside, whole, refused, State, Finding, Outcome, standBy, findingBy, closing, standing, furtherBy, taking}
 use Rattle.feed.specs.Told.{toldStanding, toldFound}
 use Rattle.feed.specs.Verdict.{room, Verdict, verdict}
 use Rattle.feed.specs.declared.step.Step.{Step}
 
 abbrev pub opened : List ℕ → ℕ → State
 opened kept n = record { kept = kept; count = n; stand = inside }
+
+-- whether the next byte goes in
+abbrev pub goesOn : Stand → Bool
+goesOn inside = true
+goesOn whole = true
+goesOn (refused f) = false
 
 -- a part laid in from a place, byte by byte
 abbrev pub laidIn : List ℕ → ℕ → List ℕ → List ℕ
@@ -24,6 +31,11 @@ laidIn kept n part = sets kept n part
 abbrev pub outcomeAt : List ℕ → ℕ → ℕ → List ℕ → Outcome
 outcomeAt kept n used rest =
     furtherBy (closing (verdict (take n kept)) kept n used .finding) (closing (verdict (take n kept)) kept n used) (taking (opened kept n) rest)
+
+-- no length, or the announced one, for which there is room
+pub data Expected (kept : List ℕ) (count : ℕ) : ℕ → Type 0 where
+  none : Expected kept count 0
+  announced : {whole : ℕ} → announcing (take count kept) ≡ announces whole → whole ≤ room → Expected kept count whole
 
 -- as many bytes as the heading wants: all that are offered stay below the 17th, or the 17th is just in, or it was in and one is taken
 pub record Stretch (count offered r : ℕ) : Type 0 where

@@ -12,7 +12,7 @@ use Rattle.envelope.specs.Reading.{reading}
 use Rattle.envelope.specs.Told.{toldEnvelope}
 use Rattle.envelope.specs.declared.fields.Envelope.{Envelope}
 use Rattle.feed.specs.Cutting.{Came, Calls}
-use Rattle.feed.specs.Feeding.{Stand, whole, refused, State, begun, nothing, standing}
+use Rattle.feed.specs.Feeding.{Stand, whole, refused, State, begun, Finding, nothing, message, refusal, Outcome, standing, taking, ending}
 use Rattle.feed.specs.Stream.{foundIn}
 use Rattle.feed.specs.Told.{toldFault, toldFeed, toldTaken, Fresh, Takes, Holds}
 use Rattle.feed.specs.Verdict.{room, FeedFault, numberOf, bad, verdict}
@@ -73,6 +73,24 @@ abbrev pub FoundIsHeld : Type 0
 FoundIsHeld = (f : Feed) (piece : List ℕ) (t : Taken) (n : ℕ) (e : Envelope) (m : List ℕ)
     → Roomy (toldFeed f) → Takes f piece t → t .found ≡ Message n e → Holds (t .feed .kept) (t .feed .count) (t .feed .standing) m
     → (foundIn (toldTaken t) ≡ m ∷ []) × (reading m ≡ accepted (toldEnvelope e)) × (length m ≡ n)
+
+-- ---- no call uses more bytes than the longest message has, or finds a longer one
+
+abbrev pub foundSize : Finding → ℕ
+foundSize nothing = 0
+foundSize (message n f) = n
+foundSize (refusal f) = 0
+
+pub record Few (o : Outcome) : Type 0 where
+  pub used : o .used ≤ room
+  pub size : foundSize (o .finding) ≤ room
+
+abbrev pub UsesFew : Type 0
+UsesFew = (s : State) (piece : List ℕ) (o : Outcome) → Roomy s → o ≡ taking s piece → Few o
+
+-- an end finds none at all
+abbrev pub EndFindsNoMessage : Type 0
+EndFindsNoMessage = (s : State) → foundSize (ending s .finding) ≡ 0
 
 -- ---- the moment
 

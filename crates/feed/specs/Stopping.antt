@@ -18,7 +18,11 @@ use Rattle.feed.specs.declared.step.Standing.the-variants.{Refused}
 abbrev pub RefusalIsKept : Type 0
 RefusalIsKept = (f : Feed) (fault : Fault) (piece : List ℕ) (t : Taken) → Takes f piece t → t .found ≡ Barred fault → t .feed .standing ≡ Refused fault
 
--- so does the end's
+-- and one that stands after a call was told by it, wherever the bytes are cut
+abbrev pub RefusalIsTold : Type 0
+RefusalIsTold = (f : Feed) (fault : Fault) (piece : List ℕ) (t : Taken) → Takes f piece t → t .feed .standing ≡ Refused fault → t .found ≡ Barred fault
+
+-- the end's stands from then on too
 abbrev pub EndIsKept : Type 0
 EndIsKept = (f : Feed) (fault : Fault) (e : Ended) → Ends f e → e .found ≡ Barred fault → e .feed .standing ≡ Refused fault
 

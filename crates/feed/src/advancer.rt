@@ -4,8 +4,9 @@ ghost use mathlib.Core.Path.{_≡_};
 ghost use Prim.Native.Nat.{_<_};
 ghost use lib.ListN.{length};
 ghost use Rattle.feed.specs.Feeding.{inside, begunBy, taking};
-ghost use Rattle.feed.specs.Helpers.{opened, Stretch};
-ghost use Rattle.feed.specs.Told.{toldStep, Advances};
+ghost use Rattle.feed.specs.Helpers.{opened, goesOn, Expected, Stretch};
+ghost use Rattle.feed.specs.Messages.{Few};
+ghost use Rattle.feed.specs.Told.{toldStanding, toldStep, Advances};
 ghost use Rattle.feed.specs.Verdict.{room};
 use crate::fault::Fault;
 use crate::feeder::Feed;
@@ -21,21 +22,42 @@ use envelope::Envelope;
 use envelope::announce;
 
 // `Feed::take` where the feed is lent in parts: the bytes kept, how many of them are in, and what stands.
+// What follows for a caller is said too: no call uses more bytes than the longest message has, or finds a longer one.
 pub fn advance(kept: &mut [u8; Feed::ROOM], count: usize, standing: Standing, piece: &[u8]) -> Step
-    ensures { λ r. ⌜ Advances (now (kept .entry)) count standing (now (piece .entry)) r (now (kept .exit)) ⌝ }
+    ensures { λ r. ⌜ Advances (now (kept .entry)) count standing (now (piece .entry)) r (now (kept .exit)) × Few (toldStep r (now (kept .exit))) ⌝ }
 {
     if piece.len() == 0 {
         return stay(count, standing);
     }
+    if !goes_on(standing) {
+        return stay(count, standing);
+    }
+    grow(kept, begun(count, standing), piece)
+}
+
+// Whether the next byte goes in: unless a refusal stands.
+fn goes_on(standing: Standing) -> bool
+    ensures { λ r. ⌜ r ≡ goesOn (toldStanding standing) ⌝ }
+{
     match standing {
-        Standing::Refused(_) => stay(count, standing),
-        Standing::Whole => grow(kept, 0, piece),
-        Standing::Inside => grow(kept, begun(count), piece),
+        Standing::Inside => true,
+        Standing::Whole => true,
+        Standing::Refused(_) => false,
     }
 }
 
-// How many bytes of a message are in. A count that no feed has counts as none.
-pub(crate) fn begun(count: usize) -> usize
+// How many bytes of the next message are in. A count that no feed has counts as none.
+pub(crate) fn begun(count: usize, standing: Standing) -> usize
+    ensures { λ r. ⌜ (r ≡ begunBy (toldStanding standing) count) × (r < room) ⌝ }
+{
+    match standing {
+        Standing::Inside => below_room(count),
+        Standing::Whole => 0,
+        Standing::Refused(_) => 0,
+    }
+}
+
+fn below_room(count: usize) -> usize
     ensures { λ r. ⌜ (r ≡ begunBy inside count) × (r < room) ⌝ }
 {
     if count < Feed::ROOM {
@@ -44,8 +66,20 @@ pub(crate) fn begun(count: usize) -> usize
     0
 }
 
-// The bytes up to the 17th, or one byte, and then those up to the announced length.
+// Past the heading, the bytes up to the announced length.
 fn grow(kept: &mut [u8], count: usize, piece: &[u8]) -> Step
+    requires { ⌜ (length (now kept) ≡ room) × (count < room) × (0 < length (now piece)) ⌝ }
+    ensures { λ r. ⌜ toldStep r (now (kept .exit)) ≡ taking (opened (now (kept .entry)) count) (now (piece .entry)) ⌝ }
+{
+    let expected = expects(kept, count);
+    if count < expected {
+        return fill(kept, count, expected, 0, piece);
+    }
+    through_heading(kept, count, piece)
+}
+
+// The bytes up to the 17th, or one byte, and then those up to the announced length.
+fn through_heading(kept: &mut [u8], count: usize, piece: &[u8]) -> Step
     requires { ⌜ (length (now kept) ≡ room) × (count < room) × (0 < length (now piece)) ⌝ }
     ensures { λ r. ⌜ toldStep r (now (kept .exit)) ≡ taking (opened (now (kept .entry)) count) (now (piece .entry)) ⌝ }
 {
@@ -61,6 +95,26 @@ fn grow(kept: &mut [u8], count: usize, piece: &[u8]) -> Step
             }
             fill(kept, in_all, whole, first, &piece[first..])
         }
+    }
+}
+
+// The announced length of a message that is on its way past its heading, as long as it has room. Otherwise 0.
+fn expects(kept: &[u8], count: usize) -> usize
+    requires { ⌜ (length (now kept) ≡ room) × (count < room) ⌝ }
+    ensures { λ r. ⌜ Expected (now (kept .entry)) count r ⌝ }
+{
+    if count < Envelope::HEADER {
+        return 0;
+    }
+    match announce(&kept[..count]) {
+        Announcement::Length(whole) => {
+            if whole <= Feed::ROOM {
+                return whole;
+            }
+            0
+        }
+        Announcement::Unfinished => 0,
+        Announcement::Refused(_) => 0,
     }
 }
 

@@ -12,14 +12,8 @@ use crate::step::stay;
 pub fn close(count: usize, standing: Standing) -> Step
     ensures { λ r. ⌜ Closes count standing r ⌝ }
 {
-    match standing {
-        Standing::Refused(_) => stay(count, standing),
-        Standing::Whole => stay(count, standing),
-        Standing::Inside => {
-            if begun(count) == 0 {
-                return stay(count, standing);
-            }
-            refuse(count, 0, Fault::Cut)
-        }
+    if begun(count, standing) == 0 {
+        return stay(count, standing);
     }
+    refuse(count, 0, Fault::Cut)
 }

@@ -4,7 +4,7 @@ ghost use Rattle.feed.specs.Told.{NumbersFault};
 use envelope::Refusal;
 
 pub enum Fault {
-    // 2, 3, 4, 6 and 7
+    // 2, 3, 4, 6 and 7; 1 and 5 only in a feed that no calls lead to
     Unread(Refusal),
     // 51: the announced length is over the room
     TooLong,

@@ -46,6 +46,7 @@ use Rattle.feed.specs.declared.feeder.Feed.{Feed}
 use Rattle.feed.specs.declared.step.Standing.{Standing}
 use Rattle.feed.proofs.OnlyLaws as feed
 use Rattle.exports.specs.Envelopes.{ReadsForC, WritesForC, RewritesForC, SplitsForC, JoinsForC, JudgesLatenessForC, JudgesSequenceForC}
+use Rattle.exports.specs.Feeds.{Lent, TakesForC, EndsForC, RestartsForC, HoldsForC}
 use Rattle.exports.specs.Goldens.{CountsForC, ChecksForC, FindsForC, EntersForC, StepsForC, ComparesForC, MakesForC}
 use Rattle.exports.specs.Word.{WordTellsItsSlots}
 use Rattle.exports.proofs.FitsLaws.{word-tells-its-slots}
@@ -201,6 +202,18 @@ compare-for-c-has-one-outcome = exports.only-compares-for-c
 
 pub make-for-c-has-one-outcome : (m entry : List ℕ) → Only₂ (MakesForC m entry)
 make-for-c-has-one-outcome = exports.only-makes-for-c
+
+pub feed-take-for-c-has-one-outcome : (entry : Lent) (piece : List ℕ) → Only₂ (TakesForC entry piece)
+feed-take-for-c-has-one-outcome = exports.only-takes-for-c
+
+pub feed-end-for-c-has-one-outcome : (entry : List ℕ) → Only₂ (EndsForC entry)
+feed-end-for-c-has-one-outcome = exports.only-ends-for-c
+
+pub feed-restart-for-c-has-one-outcome : Only₂ RestartsForC
+feed-restart-for-c-has-one-outcome = exports.only-restarts-for-c
+
+pub feed-message-for-c-has-one-answer : (kept numbers : List ℕ) → Only₁ (HoldsForC kept numbers)
+feed-message-for-c-has-one-answer = exports.only-holds-for-c
 
 -- nothing is lost in an answer's word: the four slots come back
 pub a-word-tells-its-slots : WordTellsItsSlots

@@ -1,7 +1,7 @@
 -- No theorem about feeds is empty: for each that has hypotheses a run in which they hold, computed, and what the theorem then says of it.
 -- M whole and cut after ten bytes, M and C end to end, a heading of another version, C damaged.
 use mathlib.Core.List.{List, [], _∷_, _++_}
-use mathlib.Core.Path.{_≡_, refl, sym}
+use mathlib.Core.Path.{_≡_, refl, ap, sym}
 use Prim.Native.Nat.{ℕ}
 use native.Mathlib.Omega.{arith}
 use lib.Dec.{lit≤, lit<}
@@ -10,17 +10,17 @@ use Rattle.sum.proofs.Computed.{literals}
 use Rattle.sum.proofs.Flips.{bitsApart-same}
 use Rattle.envelope.specs.Announcing.{announcing}
 use Rattle.envelope.specs.Demand3.{DeclaresCrc}
-use Rattle.envelope.specs.Fields.{accepted}
+use Rattle.envelope.specs.Fields.{absent, accepted}
 use Rattle.envelope.specs.Heading.{heading}
 use Rattle.envelope.specs.Reading.{reading}
 use Rattle.envelope.specs.Told.{toldEnvelope}
 use Rattle.envelope.specs.declared.reader.Fault.the-variants.{WrongVersion}
 use Rattle.feed.specs.Cutting.{Came, Calls, over, stopped, call, noCalls, callThen, toldCame, Uses, SettledBy}
-use Rattle.feed.specs.Feeding.{inside, whole, refused, fresh, nothing, byteIn, taking, ending}
-use Rattle.feed.specs.Messages.{AllFit, none, also, Between, Silent, SettledAt, Settles}
+use Rattle.feed.specs.Feeding.{inside, whole, refused, fresh, nothing, message, Outcome, byteIn, taking, ending}
+use Rattle.feed.specs.Messages.{Few, AllFit, none, also, Between, Silent, SettledAt, Settles}
 use Rattle.feed.specs.Stream.{foundIn, streaming}
 use Rattle.feed.specs.TwoBits.{FoundSomewhere}
-use Rattle.feed.specs.Told.{toldFeed, toldTaken, Takes, Ends, Closes}
+use Rattle.feed.specs.Told.{toldFeed, toldFound, toldTaken, Takes, Ends, Closes}
 use Rattle.feed.specs.Verdict.{bad, verdict}
 use Rattle.feed.specs.declared.fault.Fault.{Fault}
 use Rattle.feed.specs.declared.fault.Fault.the-variants.{Unread, Cut}
@@ -30,11 +30,14 @@ use Rattle.feed.specs.declared.feeder.Taken.{Taken}
 use Rattle.feed.specs.declared.step.Found.the-variants.{Nothing, Message, Refused as Barred}
 use Rattle.feed.specs.declared.step.Standing.the-variants.{Inside, Whole, Refused}
 use Rattle.feed.specs.declared.step.Step.{Step}
-use Rattle.sheet.specs.Cases.{M, C, fieldsOfC}
-use Rattle.sheet.specs.FeedCases.{number, heldBy, damagedC}
+use Rattle.exports.specs.Envelopes.{fieldNumbers}
+use Rattle.exports.specs.Feeds.{stateNumbers, foundSlots, fieldsFound, Lent, lent, lentAfter, TakesForC, EndsForC, RestartsForC, HoldsForC}
+use Rattle.exports.specs.Word.{slots, word, sized}
+use Rattle.sheet.specs.Cases.{M, likeM, C, fieldsOfC}
+use Rattle.sheet.specs.FeedCases.{number, heldBy, fed, damagedC}
 use Rattle.sheet.proofs.Cases.{starred}
 use Rattle.sheet.proofs.FeedCases.{announces-damaged, verdict-damaged, wrongSum, feed-cases}
-use Rattle.sheet.proofs.Feeding.{cut-anywhere, end-anywhere, as-defined, advance-is-take, close-is-end, uses-bytes, last-used-settles, found-are-accepted, all-are-found, found-in-one-piece, found-is-held, found-at-its-last-byte, refused-at-the-17th, refused-when-complete, where-refused, refusal-is-kept, end-is-kept, refusal-stands, restart-is-new, empty-piece, end-between, end-inside, feed-three-bits}
+use Rattle.sheet.proofs.Feeding.{cut-anywhere, end-anywhere, as-defined, advance-is-take, close-is-end, take-for-c-is-take, end-for-c-is-end, restart-for-c-is-new, message-for-c-is-held, uses-few, refusal-is-told, uses-bytes, last-used-settles, found-are-accepted, all-are-found, found-in-one-piece, found-is-held, found-at-its-last-byte, refused-at-the-17th, refused-when-complete, where-refused, refusal-is-kept, end-is-kept, refusal-stands, restart-is-new, empty-piece, end-between, end-inside, feed-three-bits}
 use Rattle.sheet.proofs.OneFeed.{newFeed, is-new, new-between, envelopeM, envelopeC, takenWhole, takes-whole, fits, cameOfOne, one-call, found-somewhere}
 
 -- ---- two runs over M: in one piece, and cut after ten bytes
@@ -264,3 +267,61 @@ declares-C = record { fields = fieldsOfC; accepts = starred .kind-crc; declares 
 
 pub C-found-twice : C ≡ C
 C-found-twice = feed-three-bits C C found-C found-C refl declares-C declares-C (rw (bitsApart-same C) (lit≤ tt))
+
+-- ---- from C: M is found in a new feed, and what is behind it is left; held, ended, restarted
+
+abbrev newForC : List ℕ → Lent
+newForC fields = lent (newFeed .kept) (0 ∷ 0 ∷ []) fields
+
+abbrev foundForC : Lent
+foundForC = lent (heldBy M whole .kept) (21 ∷ 255 ∷ []) (fieldNumbers (likeM absent 17 0))
+
+finds-for-c : (fields : List ℕ) → TakesForC (newForC fields) (M ++ M) (word (slots 0 0 21 21)) foundForC
+finds-for-c fields =
+    let found = sym (feed-cases .found) in
+    (ap (λ (o : Outcome). word (foundSlots (o .finding) (o .used))) found, ap (λ (o : Outcome). lentAfter o fields) found)
+
+abbrev takenM : Taken
+takenM = takenWhole M envelopeM (lit≤ tt) (starred .a .0)
+
+pub found-for-c-is-taken : (fields : List ℕ) → foundForC ≡ lent (takenM .feed .kept) (stateNumbers (toldFeed (takenM .feed))) (fieldsFound (toldFound (takenM .found)) fields)
+found-for-c-is-taken fields =
+    take-for-c-is-take newFeed (newForC fields) (M ++ M) _ foundForC takenM refl (finds-for-c fields) (takes-whole M envelopeM (lit≤ tt) (starred .a .0) M) .1
+
+-- a whole message, in storage whose number for it is none that a call writes
+abbrev wholeFeed : Feed
+wholeFeed = record { kept = heldBy M whole .kept; count = 21; standing = Whole }
+
+abbrev anEnd : Ended
+anEnd = record { feed = wholeFeed; found = Nothing }
+
+pub end-for-c-is-taken : (exit : List ℕ) → EndsForC (21 ∷ 9 ∷ []) 0 exit → exit ≡ (21 ∷ 255 ∷ [])
+unfolding ending
+end-for-c-is-taken exit promise = end-for-c-is-end wholeFeed (wholeFeed .kept) (21 ∷ 9 ∷ []) 0 exit anEnd refl promise refl .1
+
+pub restart-for-c-is-taken : (kept numbers : List ℕ) → RestartsForC kept numbers → (kept ≡ newFeed .kept) × (numbers ≡ (0 ∷ 0 ∷ []))
+restart-for-c-is-taken kept numbers promise = restart-for-c-is-new newFeed kept numbers is-new promise
+
+pub message-for-c-is-M : HoldsForC (wholeFeed .kept) (21 ∷ 9 ∷ []) (word (sized 21)) → M ≡ take (length M) (wholeFeed .kept)
+message-for-c-is-M promise = message-for-c-is-held wholeFeed (wholeFeed .kept) (21 ∷ 9 ∷ []) _ M refl promise refl .1
+
+-- ---- no more than 510 bytes
+
+pub few-of-M : Few (fed M whole (message 21 (likeM absent 17 0)))
+few-of-M = uses-few fresh (M ++ M) (fed M whole (message 21 (likeM absent 17 0))) refl (sym (feed-cases .found))
+
+-- ---- a refusal that comes with the second piece is told by it
+
+abbrev allButThe17th : Feed
+allButThe17th = record { kept = heldBy (take 16 (set M 0 3)) inside .kept; count = 16; standing = Inside }
+
+abbrev versionIn : Taken
+versionIn =
+    record {
+      feed = record { kept = heldBy (take 17 (set M 0 3)) inside .kept; count = 17; standing = Refused (Unread (record { fault = WrongVersion })) };
+      used = 1;
+      found = Barred (Unread (record { fault = WrongVersion }));
+    }
+
+pub version-is-told : versionIn .found ≡ Barred (Unread (record { fault = WrongVersion }))
+version-is-told = refusal-is-told allButThe17th _ (drop 16 (set M 0 3)) versionIn (sym (feed-cases .no-2-cut)) refl

@@ -1,16 +1,19 @@
 -- K1: messages as they arrive, of any run of the functions' own calls, each with its promise as evidence.
 -- Cutting first, then what is found and when, then what stops a feed, then K11.
 use Rattle.feed.specs.Cutting.{CutAnywhere, EndAnywhere, AsDefined, AdvanceIsTake, CloseIsEnd, UsesBytes, LastUsedSettles, RunsEnd}
-use Rattle.feed.specs.Messages.{NewIsBetween, FoundAreAccepted, AllAreFound, FoundInOnePiece, FoundIsHeld, FoundAtItsLastByte, RefusedAtThe17th, RefusedWhenComplete, WhereRefused}
-use Rattle.feed.specs.Stopping.{RefusalIsKept, EndIsKept, RefusalStands, RestartIsNew, EmptyPiece, EndBetween, EndInside}
+use Rattle.feed.specs.Messages.{NewIsBetween, FoundAreAccepted, AllAreFound, FoundInOnePiece, FoundIsHeld, UsesFew, FoundAtItsLastByte, RefusedAtThe17th, RefusedWhenComplete, WhereRefused}
+use Rattle.feed.specs.Stopping.{RefusalIsKept, RefusalIsTold, EndIsKept, RefusalStands, RestartIsNew, EmptyPiece, EndBetween, EndInside}
 use Rattle.feed.specs.TwoBits.{FeedTwoBits, FeedThreeBits}
 use Rattle.feed.proofs.BitsLaws as bits
+use Rattle.feed.proofs.FewLaws as few
 use Rattle.feed.proofs.FoundLaws as found
 use Rattle.feed.proofs.RefusedLaws as refused
 use Rattle.feed.proofs.RunLaws as run
 use Rattle.feed.proofs.SettlingLaws as settling
 use Rattle.feed.proofs.StopLaws as stop
 use Rattle.feed.proofs.UseLaws as uses
+use Rattle.exports.specs.Feeds.{StorageKeepsTheState, TakeForCIsTake, EndForCIsEnd, RestartForCIsNew, MessageForCIsHeld}
+use Rattle.exports.proofs.FeedLaws as for-c
 
 -- ---- (a) cutting
 
@@ -42,7 +45,27 @@ last-used-settles = uses.last-used-settles
 pub runs-end : RunsEnd
 runs-end = uses.runs-end
 
+-- from C, with the feed in storage that is lent: the same calls, so that each theorem here speaks of them too
+pub storage-keeps-the-state : StorageKeepsTheState
+storage-keeps-the-state = for-c.storage-keeps-the-state
+
+pub take-for-c-is-take : TakeForCIsTake
+take-for-c-is-take = for-c.take-for-c-is-take
+
+pub end-for-c-is-end : EndForCIsEnd
+end-for-c-is-end = for-c.end-for-c-is-end
+
+pub restart-for-c-is-new : RestartForCIsNew
+restart-for-c-is-new = for-c.restart-for-c-is-new
+
+pub message-for-c-is-held : MessageForCIsHeld
+message-for-c-is-held = for-c.message-for-c-is-held
+
 -- ---- (b) what is found
+
+-- no call uses more than 510 bytes, or finds a longer message
+pub uses-few : UsesFew
+uses-few = few.uses-few
 
 pub new-is-between : NewIsBetween
 new-is-between = settling.new-is-between
@@ -78,6 +101,9 @@ where-refused = refused.where-refused
 
 pub refusal-is-kept : RefusalIsKept
 refusal-is-kept = stop.refusal-is-kept
+
+pub refusal-is-told : RefusalIsTold
+refusal-is-told = stop.refusal-is-told
 
 pub end-is-kept : EndIsKept
 end-is-kept = stop.end-is-kept

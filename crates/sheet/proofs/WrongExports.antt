@@ -3,7 +3,7 @@
 use mathlib.Core.List.{List, [], _∷_}
 use mathlib.Core.Path.{ap, _∙_}
 use Prim.Native.Nat.{ℕ, _+_, _*_}
-use lib.ListN.{length, take, getD, replicate}
+use lib.ListN.{take, getD, replicate}
 use Rattle.envelope.specs.Fields.{Answer}
 use Rattle.envelope.specs.Lateness.{latenessOf}
 use Rattle.envelope.specs.Qos.{splitting, joining}
@@ -17,12 +17,18 @@ use Rattle.golden.specs.Finding.{findFrom, finding}
 use Rattle.golden.specs.Listing.{counting, entryAt}
 use Rattle.golden.specs.Making.{making, recordOf}
 use Rattle.golden.specs.Stepping.{stepAt, nextAfter}
+use Rattle.feed.specs.Feeding.{State, refused as refusedStand, Outcome as FeedOutcome, ending}
+use Rattle.feed.specs.Verdict.{tooLong}
 use Rattle.exports.specs.Envelopes.{readSlots, fieldsAfter, ReadsForC, writeSlots, WritesForC, RewritesForC, qosFor, SplitsForC, JoinsForC, JudgesLatenessForC, JudgesSequenceForC}
+use Rattle.exports.specs.Feeds.{foundSlots, Lent, lent, lentAfter, TakesForC, EndsForC, RestartsForC, HoldsForC}
 use Rattle.exports.specs.Goldens.{CountsForC, checkSlots, ChecksForC, nameFor, FindsForC, EntersForC, StepsForC, ComparesForC, MakesForC}
-use Rattle.exports.specs.Word.{slots, word}
+use Rattle.exports.specs.Word.{slots, word, sized}
 use Rattle.sheet.specs.Cases.{M}
+use Rattle.sheet.specs.FeedCases.{heldBy, announcing511}
 use Rattle.sheet.proofs.Apart.{apart}
 use Rattle.sheet.proofs.Cases.{starred}
+use Rattle.sheet.proofs.FeedCases.{feed-cases}
+use Rattle.sheet.proofs.OneFeed.{newFeed}
 use Rattle.sheet.proofs.WrongAnswers.{givenM, writes-M}
 use Rattle.sheet.proofs.WrongGolden.{checks-M}
 
@@ -163,3 +169,51 @@ make-for-c-refuses-a-short-buffer exit kept = apart 0 35 tt (rw (starred .a .0) 
 pub make-for-c-tells-what-reading-said : (exit : List ℕ) → MakesForC (take 20 M) [] 34 exit → ⊥
 unfolding making word
 make-for-c-tells-what-reading-said exit kept = apart 34 (34 + 256) tt (rw (starred .b) at (kept .0))
+
+-- 17 bytes that announce 511 are in, and 51 stands
+abbrev refusedFeed : State
+refusedFeed = heldBy (take 17 announcing511) (refusedStand tooLong)
+
+-- ---- a feed's piece: half a message told as none used; a refusal that stands passed over; fields written where none is found
+
+pub feed-take-for-c-tells-what-it-used : (fields : List ℕ) (exit : Lent) → TakesForC (lent (newFeed .kept) (0 ∷ 0 ∷ []) fields) (take 20 M) 0 exit → ⊥
+unfolding word
+feed-take-for-c-tells-what-it-used fields exit kept =
+    apart 0 (20 * 65536) tt (kept .0 ∙ ap (λ (o : FeedOutcome). word (foundSlots (o .finding) (o .used))) (feed-cases .missing))
+
+pub feed-take-for-c-does-not-resume : (fields : List ℕ) (exit : Lent) → TakesForC (lent (refusedFeed .kept) (17 ∷ 51 ∷ []) fields) M 0 exit → ⊥
+unfolding word
+feed-take-for-c-does-not-resume fields exit kept =
+    apart 0 51 tt (kept .0 ∙ ap (λ (o : FeedOutcome). word (foundSlots (o .finding) (o .used))) (feed-cases .not-resumed))
+
+pub feed-take-for-c-keeps-the-fields : (r : ℕ) (kept numbers : List ℕ) → TakesForC (lent (newFeed .kept) (0 ∷ 0 ∷ []) (9 ∷ [])) (take 20 M) r (lent kept numbers (0 ∷ [])) → ⊥
+feed-take-for-c-keeps-the-fields r kept numbers promise =
+    apart 0 9 tt (ap (λ (l : Lent). getD (l .fields) 0 0) (promise .1 ∙ ap (λ (o : FeedOutcome). lentAfter o (9 ∷ [])) (feed-cases .missing)))
+
+-- ---- a feed's end: inside a message told as done; after one told as cut
+
+pub feed-end-for-c-tells-52 : (exit : List ℕ) → EndsForC (5 ∷ 0 ∷ []) 0 exit → ⊥
+unfolding ending word
+feed-end-for-c-tells-52 exit kept = apart 0 52 tt (kept [] .0)
+
+pub feed-end-for-c-is-done-after-a-message : (exit : List ℕ) → EndsForC (21 ∷ 255 ∷ []) 52 exit → ⊥
+unfolding ending word
+feed-end-for-c-is-done-after-a-message exit kept = apart 52 0 tt (kept [] .0)
+
+-- ---- a restart: a refusal left standing; the bytes left as they were
+
+pub feed-restart-for-c-clears-the-refusal : (kept : List ℕ) → RestartsForC kept (0 ∷ 51 ∷ []) → ⊥
+feed-restart-for-c-clears-the-refusal kept promise = apart 51 0 tt (ap (λ (s : List ℕ). getD s 1 0) (promise .1))
+
+pub feed-restart-for-c-clears-the-bytes : (rest numbers : List ℕ) → RestartsForC (4 ∷ rest) numbers → ⊥
+feed-restart-for-c-clears-the-bytes rest numbers promise = apart 4 0 tt (ap (λ (s : List ℕ). getD s 0 0) (promise .0))
+
+-- ---- the message found: half of one; none where there is one
+
+pub feed-message-for-c-is-no-half-message : HoldsForC M (20 ∷ 0 ∷ []) (word (sized 20)) → ⊥
+unfolding word
+feed-message-for-c-is-no-half-message kept = apart (20 * 4294967296) 0 tt kept
+
+pub feed-message-for-c-is-the-message : HoldsForC M (21 ∷ 255 ∷ []) 0 → ⊥
+unfolding word
+feed-message-for-c-is-the-message kept = apart 0 (21 * 4294967296) tt kept

@@ -82,12 +82,24 @@ pub a-feed-does-not-resume : (t : Taken) (n : ℕ) (e : Envelope) → t .found �
 unfolding kindOf
 a-feed-does-not-resume t n e wrong kept = apart 1 2 tt (ap kindOf (ap toldFound (sym wrong) ∙ foundIn t _ (kept ∙ feed-cases .not-resumed)))
 
+abbrev feedBetween : Feed
+feedBetween = record { kept = heldBy C whole .kept; count = 23; standing = Whole }
+
+-- and with an empty piece: it finds the message again, or says nothing of the refusal
+pub an-empty-piece-finds-nothing-again : (t : Taken) (n : ℕ) (e : Envelope) → t .found ≡ Message n e → Takes feedBetween [] t → ⊥
+unfolding kindOf
+an-empty-piece-finds-nothing-again t n e wrong kept = apart 1 0 tt (ap kindOf (ap toldFound (sym wrong) ∙ foundIn t _ (kept ∙ feed-cases .no-bytes-after)))
+
+pub an-empty-piece-repeats-the-refusal : (t : Taken) → t .found ≡ Nothing → Takes refusedFeed [] t → ⊥
+unfolding kindOf
+an-empty-piece-repeats-the-refusal t wrong kept = apart 0 2 tt (ap kindOf (ap toldFound (sym wrong) ∙ foundIn t _ (kept ∙ feed-cases .no-bytes-refused)))
+
 -- one that drops a byte at a cut: it would not find M, however M is cut
 pub a-feed-drops-no-byte-at-a-cut : (c : Came) → c .found ≡ [] → Calls newFeed M c → ⊥
 a-feed-drops-no-byte-at-a-cut c wrong calls =
     apart 0 1 tt (ap length (sym wrong ∙ all-are-found newFeed (M ∷ []) c new-between (also (fits M envelopeM (lit≤ tt) (starred .a .0)) none) calls .0))
 
--- ---- take: the message one byte early; a piece that ends inside a message not used up; a message without its fields
+-- ---- take: the message one byte early; a byte fewer in than came; another message's fields
 
 pub take-does-not-find-early : (t : Taken) (n : ℕ) (e : Envelope) → t .found ≡ Message n e → Takes newFeed (take 22 C) t → ⊥
 unfolding kindOf
@@ -120,9 +132,6 @@ restart-keeps-no-refusal f wrong kept =
 abbrev feedWithin : Feed
 feedWithin = record { kept = heldBy (take 5 C) inside .kept; count = 5; standing = Inside }
 
-abbrev feedBetween : Feed
-feedBetween = record { kept = heldBy C whole .kept; count = 23; standing = Whole }
-
 pub end-inside-is-refused : (e : Ended) → e .found ≡ Nothing → Ends feedWithin e → ⊥
 unfolding kindOf
 end-inside-is-refused e wrong kept =
@@ -137,7 +146,7 @@ pub end-keeps-its-refusal : Ends feedWithin (record { feed = feedWithin; found =
 unfolding standOf
 end-keeps-its-refusal kept = apart 0 52 tt (ap (λ (o : Outcome). standOf (o .state .stand)) (kept ∙ feed-cases .end-within))
 
--- ---- advance: the bytes lent not touched; another message than came
+-- ---- advance: the bytes lent not touched; the rest of the room wiped
 
 pub advance-does-not-touch-nothing : (r : Step) → Advances (newFeed .kept) 0 Inside (take 20 M) r (newFeed .kept) → ⊥
 advance-does-not-touch-nothing r kept =

@@ -51,6 +51,10 @@ pub record FeedCases : Type 0 where
   -- header faults: not with 16 bytes, and with the 17th, in the order 2, 3, 4, 51
   pub sixteen : taking fresh (take 16 (set M 0 3)) ≡ fed (take 16 (set M 0 3)) inside nothing
   pub no-2 : taking fresh (set M 0 3) ≡ refusedAt 17 (set M 0 3) (number 2)
+  -- and by the next piece, where the first ended with the 16th
+  pub no-2-cut :
+      taking (heldBy (take 16 (set M 0 3)) inside) (drop 16 (set M 0 3))
+      ≡ record { state = heldBy (take 17 (set M 0 3)) (refused (number 2)); used = 1; finding = refusal (number 2) }
   pub no-2-first : taking fresh (set (set M 0 3) 4 0x20) ≡ refusedAt 17 (set (set M 0 3) 4 0x20) (number 2)
   pub no-3-first : taking fresh (set (set M 4 0x20) 16 5) ≡ refusedAt 17 (set (set M 4 0x20) 16 5) (number 3)
   pub no-4-first : taking fresh (set announcing511 16 5) ≡ refusedAt 17 (set announcing511 16 5) (number 4)
@@ -59,6 +63,8 @@ pub record FeedCases : Type 0 where
   -- the others when the announced length is in; the message behind is not touched
   pub no-6 :
       taking fresh (withAddresses 7 (0x41 ∷ 0x41 ∷ 0 ∷ []) ++ M) ≡ refusedAt 28 (withAddresses 7 (0x41 ∷ 0x41 ∷ 0 ∷ [])) (number 6)
+  pub no-6-first :
+      taking fresh (set (withAddresses 7 (0x41 ∷ 0x41 ∷ 0 ∷ [])) 27 1) ≡ refusedAt 28 (set (withAddresses 7 (0x41 ∷ 0x41 ∷ 0 ∷ [])) 27 1) (number 6)
   pub no-7 : taking fresh (set M 20 1 ++ M) ≡ refusedAt 21 (set M 20 1) (number 7)
   pub no-7-crc : taking fresh (damagedC ++ M) ≡ refusedAt 23 damagedC (number 7)
   -- cut after ten bytes, and after the 17th
@@ -68,8 +74,9 @@ pub record FeedCases : Type 0 where
   pub next-message :
       taking (heldBy C whole) (9 ∷ [])
       ≡ record { state = record { kept = set (heldBy C whole .kept) 0 9; count = 1; stand = inside }; used = 1; finding = nothing }
-  -- no bytes, after a refusal, between messages, and a whole message after a refusal
+  -- no bytes, into a new feed, after a message, and after a refusal; and a whole message after a refusal
   pub no-bytes : taking fresh [] ≡ unmoved fresh nothing
+  pub no-bytes-after : taking (heldBy C whole) [] ≡ unmoved (heldBy C whole) nothing
   pub no-bytes-refused : taking (heldBy (take 17 announcing511) (refused tooLong)) [] ≡ unmoved (heldBy (take 17 announcing511) (refused tooLong)) (refusal tooLong)
   pub not-resumed : taking (heldBy (take 17 announcing511) (refused tooLong)) M ≡ unmoved (heldBy (take 17 announcing511) (refused tooLong)) (refusal tooLong)
   -- the end: of a new feed, after a message, inside one, after a refusal

@@ -1,12 +1,14 @@
 -- `advancer::advance`: nothing is used, or the bytes go in after those that are there.
-use mathlib.Core.Path.{ap, _∙_}
+use mathlib.Core.Path.{ap, sym, _∙_}
 use Prim.Native.Nat.{ℕ}
 use native.Mathlib.Omega.{arith}
-use borrow.Author.Needs.{needs}
-use Rattle.feed.specs.Feeding.{State, inside, whole, taking}
+use Rattle.feed.specs.Feeding.{State, taking}
 use Rattle.feed.specs.Helpers.{opened, outcomeOf}
-use Rattle.feed.specs.Told.{toldFault, toldStanding, stateOf}
-use Rattle.feed.proofs.StandLaws.{nothing-offered, refused-takes, goes-on, anew, same-begun}
+use Rattle.feed.specs.Told.{stateOf}
+use Rattle.feed.proofs.FewLaws.{still-few, uses-few}
+use Rattle.feed.proofs.StandLaws.{nothing-offered, shut-takes, open-takes}
+use borrow.Author.Needs.{needs}
+use borrow.Author.Tests.{not-true, not-false}
 use Rattle.feed.proofs.advancer.advance.Statement.{statement}
 use Rattle.feed.proofs.advancer.advance.Tie as tie
 
@@ -20,47 +22,37 @@ stay-requires c κs = search needs
 returns : tie.Need-returns
 returns c =
     let s = c .before .before .before in
-    ap (outcomeOf (s .args .kept .now)) (c .stay .ensures) ∙ nothing-offered (lent s) (s .args .piece .now) (c .before .if1 .taken)
+    let stays = ap (outcomeOf (s .args .kept .now)) (c .stay .ensures) in
+    (stays ∙ nothing-offered (lent s) (s .args .piece .now) (c .before .if1 .taken), still-few (lent s) _ stays)
 
-enum-told : tie.Need-enum-told
-enum-told c = search needs
+goes-on-requires : tie.Need-goes-on-requires
+goes-on-requires c κs = search needs
 
 stay-requires-2 : tie.Need-stay-requires-2
 stay-requires-2 c κs = search needs
 
-enum-told-2 : tie.Need-enum-told-2
-enum-told-2 c = search needs
-
-grow-requires : tie.Need-grow-requires
-grow-requires c κs = search needs
-
-enum-told-3 : tie.Need-enum-told-3
-enum-told-3 c = search needs
+returns-2 : tie.Need-returns-2
+returns-2 c =
+    let s = c .before .before .before .before .before in
+    let stays = ap (outcomeOf (s .args .kept .now)) (c .stay2 .ensures) in
+    let shut = sym (c .before .before .goes-on .ensures) ∙ not-true _ (c .before .if2 .taken) in
+    (stays ∙ shut-takes (lent s) (s .args .piece .now) shut, still-few (lent s) _ stays)
 
 begun-requires : tie.Need-begun-requires
 begun-requires c κs = search needs
 
-grow-requires-2 : tie.Need-grow-requires-2
-grow-requires-2 c κs = search needs
-
-returns-2 : tie.Need-returns-2
-returns-2 c =
-    let s = c .before .before .before .before .before in
-    ap (outcomeOf (s .args .kept .now)) (c .stay2 .ensures)
-    ∙ refused-takes (lent s) (toldFault (c .before .enum-told .given .0 .0)) (s .args .piece .now) (ap toldStanding (c .before .enum-told .given .1))
+grow-requires : tie.Need-grow-requires
+grow-requires c κs = search needs
 
 returns-3 : tie.Need-returns-3
 returns-3 c =
-    let s = c .before .before .before .before .before .before in
-    c .grow .ensures
-    ∙ same-begun (lent s) whole (s .args .piece .now) (ap toldStanding (c .before .before .enum-told2 .given .1)) anew (omega arith)
-
-returns-4 : tie.Need-returns-4
-returns-4 c =
     let s = c .before .before .before .before .before .before .before in
-    c .grow2 .ensures
+    let goes = sym (c .before .before .before .before .goes-on .ensures) ∙ not-false _ (c .before .before .before .if2 .left) in
+    let takes =
+    c .grow .ensures
     ∙ ap (λ (n : ℕ). taking (opened (s .args .kept .now) n) (s .args .piece .now)) (c .before .begun .ensures .0)
-    ∙ same-begun (lent s) inside (s .args .piece .now) (ap toldStanding (c .before .before .before .enum-told3 .given .1)) goes-on (omega arith)
+    ∙ open-takes (lent s) (s .args .piece .now) goes (omega arith) in
+    (takes, uses-few (lent s) (s .args .piece .now) _ (search needs) takes)
 
 pub advance-spec : {M : Type 1} → statement M
 advance-spec =
@@ -68,13 +60,9 @@ advance-spec =
     (tie.spec
     stay-requires
     returns
-    enum-told
+    goes-on-requires
     stay-requires-2
-    enum-told-2
-    grow-requires
-    enum-told-3
-    begun-requires
-    grow-requires-2
     returns-2
-    returns-3
-    returns-4)
+    begun-requires
+    grow-requires
+    returns-3)
