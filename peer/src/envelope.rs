@@ -91,22 +91,36 @@ pub struct Fields {
     pub integrity: Integrity,
 }
 
-/// Reads a message that fills the bytes lent.
-pub fn read<S: Sum>(message: &[u8]) -> Result<Fields, Unread> {
-    if message.len() < SHORTEST {
-        return Err(Unread::TooShort);
-    }
-    if message[0] != HEADER_VERSION {
+/// What a message's first 17 bytes settle.
+pub struct Heading {
+    kind: Kind,
+    variable: usize,
+    /// The length that the whole message is to have.
+    pub announced: usize,
+}
+
+/// Judges the first 17 bytes by themselves.
+pub fn heading(head: &[u8; COMMON]) -> Result<Heading, Unread> {
+    if head[0] != HEADER_VERSION {
         return Err(Unread::HeaderVersion);
     }
-    let flags = message[4];
-    let kind = Kind::of(flags).ok_or(Unread::Flags)?;
-    let variable = usize::from(message[16]);
+    let kind = Kind::of(head[4]).ok_or(Unread::Flags)?;
+    let variable = usize::from(head[16]);
     if variable != 0 && !(SHORTEST_VARIABLE..=LONGEST_VARIABLE).contains(&variable) {
         return Err(Unread::VariableSize);
     }
-    let body_size = number(&message[5..8]) as usize;
-    if COMMON + variable + body_size + FIELD != message.len() {
+    let body_size = number(&head[5..8]) as usize;
+    Ok(Heading { kind, variable, announced: COMMON + variable + body_size + FIELD })
+}
+
+/// Reads a message that fills the bytes lent.
+pub fn read<S: Sum>(message: &[u8]) -> Result<Fields, Unread> {
+    let head = match message.first_chunk() {
+        Some(head) if message.len() >= SHORTEST => head,
+        _ => return Err(Unread::TooShort),
+    };
+    let Heading { kind, variable, announced } = heading(head)?;
+    if announced != message.len() {
         return Err(Unread::Length);
     }
     let addressing = match variable {
@@ -117,7 +131,7 @@ pub fn read<S: Sum>(message: &[u8]) -> Result<Fields, Unread> {
     Ok(Fields {
         message_type: number(&message[1..3]) as u16,
         message_version: message[3],
-        flags,
+        flags: message[4],
         number: number(&message[8..12]),
         time: number(&message[12..16]),
         addressing,

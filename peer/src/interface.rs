@@ -14,6 +14,8 @@ pub const FIELDS: usize = 16;
 pub const QOS_PARTS: usize = 5;
 pub const LINE: usize = 3;
 pub const PART: usize = 2;
+pub const FEED_ROOM: usize = 510;
+pub const FEED_NUMBERS: usize = 2;
 
 /// Places in the fields of a message.
 pub mod field {
@@ -70,3 +72,12 @@ pub const REPEAT: u16 = 0;
 pub const NEXT: u16 = 1;
 pub const AHEAD: u16 = 2;
 pub const BEHIND: u16 = 3;
+
+/// Places in the numbers of a feed.
+pub mod feed_number {
+    pub const COUNT: usize = 0;
+    pub const STANDING: usize = 1;
+}
+
+pub const FEED_INSIDE: u64 = 0;
+pub const FEED_WHOLE: u64 = 255;

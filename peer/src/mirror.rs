@@ -1,10 +1,12 @@
 //! The peer behind the C interface: each function has the twin of the same name in ours.
 //! Only the form of answers is settled here; the answers themselves are the peer's.
 
-use crate::interface::{field, Answer, Order, Timing, FIELDS, LINE, PART, QOS_PARTS};
-use crate::interface::{AHEAD, BEHIND, IN_TIME, LATE, NEXT, NO_CLOCK, REPEAT};
+use crate::interface::{feed_number, field, Answer, Order, Timing};
+use crate::interface::{AHEAD, BEHIND, FEED_INSIDE, FEED_WHOLE, IN_TIME, LATE, NEXT, NO_CLOCK, REPEAT};
+use crate::interface::{FEED_NUMBERS, FEED_ROOM, FIELDS, LINE, PART, QOS_PARTS};
 use peer::crc::{Division, Sum};
-use peer::envelope::{self, Draft, Fields, Integrity, Kind, Lateness, Qos, Sequence, Service};
+use peer::envelope::{self, Draft, Fields, Integrity, Kind, Lateness, Qos, Sequence, Service, Unread};
+use peer::feed::{self, Feed, Standing, Taken};
 use peer::golden::{self, Refusal, Step};
 
 fn refused(number: u8) -> Answer {
@@ -169,4 +171,80 @@ pub fn compare(file: &[u8], record: usize, radio: &[u8], places: &mut [u32]) -> 
 
 pub fn make(message: &[u8], buffer: &mut [u8]) -> Answer {
     golden::make::<Division>(message, buffer).map_or_else(golden_refused, |()| Answer::default())
+}
+
+/// What a feed can stand refused by.
+const FEED_REFUSALS: [feed::Refusal; 9] = [
+    feed::Refusal::Unread(Unread::TooShort),
+    feed::Refusal::Unread(Unread::HeaderVersion),
+    feed::Refusal::Unread(Unread::Flags),
+    feed::Refusal::Unread(Unread::VariableSize),
+    feed::Refusal::Unread(Unread::Length),
+    feed::Refusal::Unread(Unread::Addresses),
+    feed::Refusal::Unread(Unread::Integrity),
+    feed::Refusal::TooLong,
+    feed::Refusal::Cut,
+];
+
+/// The feed that storage of any content is.
+fn stored(kept: &[u8; FEED_ROOM], numbers: &[u64; FEED_NUMBERS]) -> Feed {
+    let number = numbers[feed_number::STANDING];
+    let refusal = FEED_REFUSALS.into_iter().find(|refusal| u64::from(refusal.number()) == number);
+    let standing = match (number, refusal) {
+        (FEED_INSIDE, _) => Standing::Inside,
+        (_, Some(refusal)) => Standing::Refused(refusal),
+        (_, None) => Standing::Whole,
+    };
+    Feed::resumed(*kept, usize::try_from(numbers[feed_number::COUNT]).unwrap_or(usize::MAX), standing)
+}
+
+fn feed_numbers(feed: &Feed) -> [u64; FEED_NUMBERS] {
+    let standing = match feed.standing() {
+        Standing::Inside => FEED_INSIDE,
+        Standing::Whole => FEED_WHOLE,
+        Standing::Refused(refusal) => refusal.number().into(),
+    };
+    [feed.count() as u64, standing]
+}
+
+pub fn feed_take(
+    kept: &mut [u8; FEED_ROOM],
+    numbers: &mut [u64; FEED_NUMBERS],
+    piece: &[u8],
+    fields: &mut [u64; FIELDS],
+) -> Answer {
+    let mut feed = stored(kept, numbers);
+    let Taken { used, found } = feed.take::<Division>(piece);
+    // Where no byte was used, storage keeps its count, however odd; of whole there is one number that a call leaves.
+    if used > 0 {
+        (*kept, *numbers) = (*feed.kept(), feed_numbers(&feed));
+    } else {
+        numbers[feed_number::STANDING] = feed_numbers(&feed)[feed_number::STANDING];
+    }
+    let answer = match found {
+        Ok(None) => Answer::default(),
+        Ok(Some(read)) => {
+            *fields = numbered(&read);
+            done_with(feed.count())
+        }
+        Err(refusal) => refused(refusal.number()),
+    };
+    Answer { count: used as u16, ..answer }
+}
+
+pub fn feed_end(numbers: &mut [u64; FEED_NUMBERS]) -> Answer {
+    let mut feed = stored(&[0; FEED_ROOM], numbers);
+    let answer = feed.end().map_or_else(|refusal| refused(refusal.number()), |()| Answer::default());
+    numbers[feed_number::STANDING] = feed_numbers(&feed)[feed_number::STANDING];
+    answer
+}
+
+pub fn feed_restart(kept: &mut [u8; FEED_ROOM], numbers: &mut [u64; FEED_NUMBERS]) {
+    let mut feed = stored(kept, numbers);
+    feed.restart();
+    (*kept, *numbers) = (*feed.kept(), feed_numbers(&feed));
+}
+
+pub fn feed_message(kept: &[u8; FEED_ROOM], numbers: &[u64; FEED_NUMBERS]) -> Answer {
+    done_with(stored(kept, numbers).message().map_or(0, <[u8]>::len))
 }

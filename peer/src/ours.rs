@@ -1,7 +1,7 @@
 //! The proved library through its C archive: one declaration and one safe function for each symbol.
 //! Slices go in with their lengths, so what the C header asks of a caller always holds.
 
-use crate::interface::{Answer, Order, Timing, FIELDS, LINE, PART, QOS_PARTS};
+use crate::interface::{Answer, Order, Timing, FEED_NUMBERS, FEED_ROOM, FIELDS, LINE, PART, QOS_PARTS};
 
 extern "C" {
     fn morlewen_crc(bytes: *const u8, length: usize) -> u32;
@@ -46,6 +46,10 @@ extern "C" {
         room: usize,
     ) -> u64;
     fn morlewen_make(message: *const u8, length: usize, buffer: *mut u8, room: usize) -> u64;
+    fn morlewen_feed_take(kept: *mut u8, numbers: *mut u64, piece: *const u8, length: usize, fields: *mut u64) -> u64;
+    fn morlewen_feed_end(numbers: *mut u64) -> u64;
+    fn morlewen_feed_restart(kept: *mut u8, numbers: *mut u64);
+    fn morlewen_feed_message(kept: *const u8, numbers: *const u64) -> u64;
 }
 
 /// Takes an answer word apart.
@@ -162,4 +166,30 @@ pub fn compare(file: &[u8], record: usize, radio: &[u8], places: &mut [u32]) -> 
 pub fn make(message: &[u8], buffer: &mut [u8]) -> Answer {
     // SAFETY: each pointer stands with the length of its own slice.
     unpack(unsafe { morlewen_make(message.as_ptr(), message.len(), buffer.as_mut_ptr(), buffer.len()) })
+}
+
+pub fn feed_take(
+    kept: &mut [u8; FEED_ROOM],
+    numbers: &mut [u64; FEED_NUMBERS],
+    piece: &[u8],
+    fields: &mut [u64; FIELDS],
+) -> Answer {
+    let (kept, numbers, fields) = (kept.as_mut_ptr(), numbers.as_mut_ptr(), fields.as_mut_ptr());
+    // SAFETY: the piece is whole, and the three arrays have the room that a feed asks for.
+    unpack(unsafe { morlewen_feed_take(kept, numbers, piece.as_ptr(), piece.len(), fields) })
+}
+
+pub fn feed_end(numbers: &mut [u64; FEED_NUMBERS]) -> Answer {
+    // SAFETY: the array has the two places.
+    unpack(unsafe { morlewen_feed_end(numbers.as_mut_ptr()) })
+}
+
+pub fn feed_restart(kept: &mut [u8; FEED_ROOM], numbers: &mut [u64; FEED_NUMBERS]) {
+    // SAFETY: the arrays have the room that a feed asks for.
+    unsafe { morlewen_feed_restart(kept.as_mut_ptr(), numbers.as_mut_ptr()) }
+}
+
+pub fn feed_message(kept: &[u8; FEED_ROOM], numbers: &[u64; FEED_NUMBERS]) -> Answer {
+    // SAFETY: the arrays have the room that a feed asks for.
+    unpack(unsafe { morlewen_feed_message(kept.as_ptr(), numbers.as_ptr()) })
 }

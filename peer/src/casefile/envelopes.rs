@@ -33,7 +33,8 @@ pub fn read(words: &mut Words) -> Answer {
     })
 }
 
-fn accepted(fields: &Fields, message: &[u8]) -> String {
+/// What `read` answers of a message that is read.
+pub fn accepted(fields: &Fields, message: &[u8]) -> String {
     let Fields { message_type, message_version, flags, number, time, .. } = fields;
     let addressing = match &fields.addressing {
         None => "unaddressed".to_string(),

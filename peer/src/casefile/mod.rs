@@ -4,6 +4,7 @@
 mod arguments;
 mod complaint;
 mod envelopes;
+mod feeds;
 mod goldens;
 mod printed;
 mod spoiled;
@@ -12,6 +13,7 @@ mod tests;
 mod words;
 mod worked_file;
 
+use crate::feed::Feed;
 pub use arguments::quotable;
 use complaint::{Complaint, What};
 use words::Words;
@@ -21,9 +23,16 @@ pub const LONGEST_INPUT: usize = 1 << 18;
 /// The most characters of a line, each of them a byte.
 pub const LONGEST_LINE: usize = 4_096;
 
-type Command = fn(&mut Words, &mut [u8]) -> Result<String, Complaint>;
+/// What goes from line to line.
+#[derive(Default)]
+struct Worked {
+    file: Vec<u8>,
+    feed: Feed,
+}
 
-const COMMANDS: [(&str, Command); 18] = [
+type Command = fn(&mut Words, &mut Worked) -> Result<String, Complaint>;
+
+const COMMANDS: [(&str, Command); 22] = [
     ("sum", |words, _| envelopes::sum(words)),
     ("read", |words, _| envelopes::read(words)),
     ("write", |words, _| envelopes::write(words)),
@@ -31,25 +40,29 @@ const COMMANDS: [(&str, Command); 18] = [
     ("qos", |words, _| envelopes::qos(words)),
     ("late", |words, _| envelopes::late(words)),
     ("sequence", |words, _| envelopes::sequence(words)),
-    ("check", |words, file| goldens::check(words, file)),
-    ("find", |words, file| goldens::find(words, file)),
-    ("step", |words, file| goldens::step(words, file)),
-    ("walk", |words, file| goldens::walk(words, file)),
-    ("compare", |words, file| goldens::compare(words, file)),
+    ("check", |words, worked| goldens::check(words, &worked.file)),
+    ("find", |words, worked| goldens::find(words, &worked.file)),
+    ("step", |words, worked| goldens::step(words, &worked.file)),
+    ("walk", |words, worked| goldens::walk(words, &worked.file)),
+    ("compare", |words, worked| goldens::compare(words, &worked.file)),
     ("make", |words, _| goldens::make(words)),
-    ("entry", |words, file| goldens::entry(words, file)),
-    ("list", |words, file| goldens::list(words, file)),
-    ("edits", spoiled::edits),
-    ("flips", spoiled::flips),
-    ("pairs", spoiled::pairs),
+    ("entry", |words, worked| goldens::entry(words, &worked.file)),
+    ("list", |words, worked| goldens::list(words, &worked.file)),
+    ("edits", |words, worked| spoiled::edits(words, &mut worked.file)),
+    ("flips", |words, worked| spoiled::flips(words, &mut worked.file)),
+    ("pairs", |words, worked| spoiled::pairs(words, &mut worked.file)),
+    ("restart", |words, worked| feeds::restart(words, &mut worked.feed)),
+    ("piece", |words, worked| feeds::piece(words, &mut worked.feed)),
+    ("stream", |words, worked| feeds::stream(words, &mut worked.feed)),
+    ("end", |words, worked| feeds::end(words, &mut worked.feed)),
 ];
 
 /// What a file of cases prints.
 pub fn run(input: &[u8]) -> Vec<u8> {
-    let (mut printed, mut file) = (Vec::new(), Vec::new());
+    let (mut printed, mut worked) = (Vec::new(), Worked::default());
     let lines = lines(input);
     for (line, number) in lines.iter().zip(1..) {
-        let told = answer(line, &mut file).unwrap_or_else(|complaint| Some(complaint.told(number).into_bytes()));
+        let told = answer(line, &mut worked).unwrap_or_else(|complaint| Some(complaint.told(number).into_bytes()));
         if let Some(told) = told {
             printed.extend(told);
             printed.push(b'\n');
@@ -75,7 +88,7 @@ fn lines(input: &[u8]) -> Vec<&[u8]> {
 }
 
 /// What a line prints: nothing, if it is a comment.
-fn answer(line: &[u8], file: &mut Vec<u8>) -> Result<Option<Vec<u8>>, Complaint> {
+fn answer(line: &[u8], worked: &mut Worked) -> Result<Option<Vec<u8>>, Complaint> {
     if line.len() > LONGEST_LINE {
         return Err(Complaint::LongLine);
     }
@@ -85,12 +98,12 @@ fn answer(line: &[u8], file: &mut Vec<u8>) -> Result<Option<Vec<u8>>, Complaint>
         return Ok(None);
     }
     if first.text == b"file" {
-        worked_file::change(&mut words, file)?;
-        return Ok(Some(format!("file: {} bytes", file.len()).into_bytes()));
+        worked_file::change(&mut words, &mut worked.file)?;
+        return Ok(Some(format!("file: {} bytes", worked.file.len()).into_bytes()));
     }
     let command = COMMANDS.iter().find(|(name, _)| name.as_bytes() == first.text);
     let (_, command) = command.ok_or(first.misfit(What::Command))?;
     let colon = words.name()?;
-    let answer = command(&mut words, file)?;
+    let answer = command(&mut words, worked)?;
     Ok(Some([&line[first.place..colon], b" ", answer.as_bytes()].concat()))
 }

@@ -1,4 +1,4 @@
-//! Files of cases run whole: the examples of document 01, each complaint, and the limits.
+//! Files of cases run whole: the examples of document 01, the feed, each complaint, and the limits.
 
 use super::run;
 
@@ -164,6 +164,79 @@ fn comparisons_and_new_records_answer_as_told() {
         (&format!("make short: room 511 of {M}"), "make short: refused 35 0 [ee*511]"),
         ("make none: room 512 of", "make none: refused 34 1 [ee*512]"),
         ("make long: room 0 of 00*511", "make long: refused 33 0 []"),
+    ]);
+}
+
+const NEW: &str = "count 0 inside kept [00*510]";
+/// M among the bytes kept: behind its message number it is zeros, as a new feed is.
+const M_KEPT: &str = "kept [041770010000000000000001 00*498]";
+
+#[test]
+fn a_feed_goes_from_line_to_line() {
+    let found = format!("message 21 {ACCEPTED} unaddressed body 17 0 [] integrity none");
+    each(&[
+        ("end of nothing:", &format!("end of nothing: nothing {NEW}")),
+        ("piece of nothing:", &format!("piece of nothing: used 0 nothing {NEW}")),
+        (
+            "piece to 16: 041770010000000000000001 00*4",
+            &format!("piece to 16: used 16 nothing count 16 inside {M_KEPT}"),
+        ),
+        ("piece to 17: 00", &format!("piece to 17: used 1 nothing count 17 inside {M_KEPT}")),
+        ("piece to the end: 00*4 0403", &format!("piece to the end: used 4 {found} count 21 whole {M_KEPT}")),
+        ("piece of nothing:", &format!("piece of nothing: used 0 nothing count 21 whole {M_KEPT}")),
+        ("end between:", &format!("end between: nothing count 21 whole {M_KEPT}")),
+        ("piece begun: 04", &format!("piece begun: used 1 nothing count 1 inside {M_KEPT}")),
+        ("end inside:", &format!("end inside: refused 52 count 1 refused 52 {M_KEPT}")),
+        ("end again:", &format!("end again: refused 52 count 1 refused 52 {M_KEPT}")),
+        ("piece refused: 04", &format!("piece refused: used 0 refused 52 count 1 refused 52 {M_KEPT}")),
+        ("stream refused: cut 0 of 04", &format!("stream refused: used 0 count 1 refused 52 {M_KEPT}")),
+        ("restart it:", &format!("restart it: {NEW}")),
+        (&format!("piece both: {M} {M}"), &format!("piece both: used 21 {found} count 21 whole {M_KEPT}")),
+    ]);
+}
+
+#[test]
+fn a_stream_tells_each_message_and_stops_at_a_refusal() {
+    let two = format!("{M} 041771010000000000000002 00*9");
+    let told = "message 21 6000 1, message 21 6001 2, used 42 count 21 whole kept [041771010000000000000002 00*498]";
+    let first = "message 21 6000 1, used";
+    for cut in ["0", "1", "7", "21", "00042", "18446744073709551615"] {
+        each(&[(&format!("stream s: cut {cut} of {two}"), &format!("stream s: {told}"))]);
+    }
+    each(&[
+        ("stream of nothing: cut 3 of", &format!("stream of nothing: used 0 {NEW}")),
+        (&format!("stream to 22: cut 8 of {M} 04"), &format!("stream to 22: {first} 22 count 1 inside {M_KEPT}")),
+        ("stream on: cut 8 of 1770", &format!("stream on: used 2 count 3 inside {M_KEPT}")),
+        ("restart r:", &format!("restart r: {NEW}")),
+        (
+            &format!("stream bad: cut 5 of {M} 03 00*15 ff 00*4 {M}"),
+            &format!("stream bad: {first} 38 count 17 refused 2 kept [03{}ff 00*493]", "00".repeat(15)),
+        ),
+        ("restart r:", &format!("restart r: {NEW}")),
+        (
+            "stream 7: cut 0 of 041770010000000000000001 00*5 00000001 04",
+            "stream 7: used 21 count 21 refused 7 kept [041770010000000000000001000000000000000001 00*489]",
+        ),
+    ]);
+}
+
+#[test]
+fn feed_lines_that_are_not_understood_change_nothing() {
+    each(&[
+        ("piece begun: 04", "piece begun: used 1 nothing count 1 inside kept [04 00*509]"),
+        ("restart", "line 2, column 8: a name and a colon expected"),
+        ("restart r: 00", "line 3, column 12: the end of the line expected"),
+        ("end e:  now", "line 4, column 9: the end of the line expected"),
+        ("piece p: 17 7", "line 5, column 13: bytes expected"),
+        ("piece p: 00*300001", "line 6, column 10: at most 300000 bytes expected"),
+        ("stream s: 00", "line 7, column 11: the word cut expected"),
+        ("stream s: cut of 00", "line 8, column 15: a number from 0 to 18446744073709551615 expected"),
+        ("stream s: cut 1 00", "line 9, column 17: the word of expected"),
+        ("stream s: cut 1", "line 10, column 16: the word of expected"),
+        ("stream s: cut 1 of 00 of", "line 11, column 23: bytes expected"),
+        ("stream s: cut 1 of 00*300000 17", "line 12, column 30: at most 300000 bytes expected"),
+        ("Piece p: 17", "line 13, column 1: a command expected"),
+        ("end e:", "end e: refused 52 count 1 refused 52 kept [04 00*509]"),
     ]);
 }
 

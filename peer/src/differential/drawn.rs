@@ -1,9 +1,10 @@
 //! The inputs that are drawn at random, as many as a run is asked for.
 //! Each family makes one input at a time and has a weight, its part in the whole.
 
+use super::ask_feed::{self, Feeds};
 use super::lent::hex;
 use super::run::Run;
-use super::{ask_envelope, ask_golden, inputs};
+use super::{ask_envelope, ask_golden, feed_inputs, inputs};
 use crate::interface::Timing;
 use peer::crc::Division;
 use peer::envelope::{COMMON, FIELD, SHORTEST};
@@ -17,10 +18,12 @@ pub struct Family {
 }
 
 /// The quick ones first, so that each operation is met early.
-pub const FAMILIES: [Family; 12] = [
+pub const FAMILIES: [Family; 14] = [
     Family { name: "lateness", weight: 50, one: lateness },
     Family { name: "sequence", weight: 50, one: sequence },
     Family { name: "QoS joins", weight: 40, one: qos_join },
+    Family { name: "feeds of any content", weight: 60, one: any_feed },
+    Family { name: "streams cut at random", weight: 8, one: stream },
     Family { name: "spoiled orders", weight: 90, one: spoiled_order },
     Family { name: "comparisons", weight: 90, one: comparison },
     Family { name: "golden files of 0 to 8 records", weight: 60, one: short_file },
@@ -159,4 +162,27 @@ fn altered(random: &mut Random, mut message: Vec<u8>) -> Vec<u8> {
     }
     inputs::seal(&mut message);
     message
+}
+
+/// A stream cut at random, and all at once.
+fn stream(run: &mut Run) {
+    let stream = feed_inputs::stream(&mut run.random);
+    let cutting = feed_inputs::cutting(&mut run.random, stream.len());
+    ask_feed::cut_twice(run, &stream, &[stream.len()], &cutting);
+}
+
+/// Calls on a feed that no calls need lead to.
+fn any_feed(run: &mut Run) {
+    let (kept, numbers) = feed_inputs::state(&mut run.random);
+    let mut feeds = Feeds::of(&kept, numbers);
+    for _ in 0..run.random.between(1, 4) {
+        match run.random.up_to(9) {
+            0 => drop(feeds.end(run)),
+            1 => feeds.restart(run),
+            _ => {
+                let piece = feed_inputs::piece(&mut run.random, &kept, numbers);
+                feeds.take(run, &piece);
+            }
+        }
+    }
 }

@@ -2,9 +2,12 @@
 //! Seeded, so that a run can be had again; it stops at the first disagreement.
 
 mod ask_envelope;
+mod ask_feed;
 mod ask_golden;
 mod drawn;
+mod feed_inputs;
 mod fixed;
+mod fixed_feed;
 mod inputs;
 mod lent;
 mod run;
@@ -43,6 +46,7 @@ pub fn command(words: &[String]) -> Option<ExitCode> {
     let options = options(words)?;
     let mut run = Run::new(options.seed);
     fixed::short(&mut run);
+    fixed_feed::short(&mut run);
     drawn(&mut run, options.count);
     fixed::long(&mut run);
     println!("answers, with how often each came:");

@@ -94,7 +94,7 @@ impl Run {
         }
     }
 
-    fn disagree(&self, operation: &str, answers: &str, shown: Shown) -> ! {
+    pub fn disagree(&self, operation: &str, answers: &str, shown: Shown) -> ! {
         let (family, place) = self.families.last().copied().unwrap_or_default();
         println!("DISAGREEMENT in {operation}");
         println!("  input: {}", shown());

@@ -23,6 +23,10 @@ pub enum Operation {
     Step,
     Compare,
     Make,
+    FeedTake,
+    FeedEnd,
+    FeedRestart,
+    FeedMessage,
 }
 
 #[derive(Clone, Copy, Debug, PartialEq, Eq, PartialOrd, Ord)]
@@ -59,6 +63,8 @@ fn word(operation: Operation, answer: Answer) -> &'static str {
         (Operation::Step, ..) => "message",
         (Operation::Compare, 0, _) => "same",
         (Operation::Compare, ..) => "different",
+        (Operation::FeedTake | Operation::FeedMessage, 0, _) => "nothing",
+        (Operation::FeedTake | Operation::FeedMessage, ..) => "message",
         (Operation::Sequence, _, REPEAT) => "repeat",
         (Operation::Sequence, _, NEXT) => "next",
         (Operation::Sequence, _, AHEAD) => "ahead",
@@ -96,8 +102,9 @@ impl Tally {
 
 fn required() -> Vec<(Operation, Outcome)> {
     use Operation::{Check, Compare, Crc, Distance, Find, Lateness, Line, Make};
+    use Operation::{FeedEnd, FeedMessage, FeedRestart, FeedTake};
     use Operation::{QosJoin, QosSplit, Read, Records, Rewrite, Sequence, Step, Write};
-    let table: [(Operation, &[&'static str], &[u8]); 16] = [
+    let table: [(Operation, &[&'static str], &[u8]); 20] = [
         (Crc, &["done"], &[]),
         (Read, &["done"], &[1, 2, 3, 4, 5, 6, 7]),
         (Write, &["done"], &[11, 12, 13, 14, 15]),
@@ -114,6 +121,10 @@ fn required() -> Vec<(Operation, Outcome)> {
         (Step, &["message", "end"], &[21, 23, 24, 25]),
         (Compare, &["same", "different"], &[21, 22, 23, 24, 25, 31]),
         (Make, &["done"], &[33, 34, 35]),
+        (FeedTake, &["nothing", "message"], &[1, 2, 3, 4, 5, 6, 7, 51, 52]),
+        (FeedEnd, &["done"], &[1, 2, 3, 4, 5, 6, 7, 51, 52]),
+        (FeedRestart, &["done"], &[]),
+        (FeedMessage, &["nothing", "message"], &[]),
     ];
     let mut required = Vec::new();
     for (operation, words, numbers) in table {

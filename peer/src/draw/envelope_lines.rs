@@ -2,6 +2,7 @@
 
 use super::damage::{damaged, damaged_twice, DAMAGES};
 use super::sketch::{kind_name, letters, Sketch, KINDS};
+use super::some;
 use super::spelled::spelled;
 use crate::envelope::{Kind, Service};
 use crate::golden::{LONGEST_MESSAGE, RECORD};
@@ -11,13 +12,15 @@ pub fn sums(random: &mut Random) -> Vec<String> {
     let (run, pattern, size) = (random.up_to(300), random.between(1, 5_000), random.between(1, 60));
     let word = letters(random, 9);
     let bytes = random.bytes(size);
-    vec![
-        "sum no bytes:".to_string(),
+    let mut lines = vec!["sum no bytes:".to_string()];
+    let others = vec![
         format!("sum {run} times one byte: {:02x}*{run}", random.byte()),
         format!("sum a pattern of {pattern}: pattern*{pattern}"),
         format!("sum nine letters: '{}'", String::from_utf8_lossy(&word)),
         format!("sum {size} bytes at random: {}", spelled(random, &bytes)),
-    ]
+    ];
+    lines.extend(some(random, 3, others));
+    lines
 }
 
 /// Lines written in an unusual way that is right all the same.
@@ -31,13 +34,15 @@ pub fn unusual(random: &mut Random) -> Vec<String> {
     ]
 }
 
+/// Each kind once, in turn with addresses and without.
 pub fn good_reads(random: &mut Random) -> Vec<String> {
     let mut lines = Vec::new();
+    let mut addressed = random.once_in(2);
     for kind in KINDS {
-        for (addressed, told) in [(false, "unaddressed"), (true, "addressed")] {
-            let message = Sketch::draw(random, kind, addressed).message();
-            lines.push(format!("read good, {}, {told}: {}", kind_name(kind), spelled(random, &message)));
-        }
+        let message = Sketch::draw(random, kind, addressed).message();
+        let told = if addressed { "addressed" } else { "unaddressed" };
+        lines.push(format!("read good, {}, {told}: {}", kind_name(kind), spelled(random, &message)));
+        addressed = !addressed;
     }
     let mut longest = Sketch::any(random);
     let size = LONGEST_MESSAGE - (longest.length() - longest.body.len());
@@ -52,12 +57,10 @@ pub fn bad_reads(random: &mut Random) -> Vec<String> {
         let message = damaged(random, damage);
         lines.push(format!("read {}: {}", damage.name(), spelled(random, &message)));
     }
-    for _ in 0..2 {
-        let first = random.up_to(DAMAGES.len() - 2);
-        let second = DAMAGES[random.between(first + 1, DAMAGES.len() - 1)];
-        let message = damaged_twice(random, DAMAGES[first], second);
-        lines.push(format!("read {} and {}: {}", DAMAGES[first].name(), second.name(), spelled(random, &message)));
-    }
+    let first = random.up_to(DAMAGES.len() - 2);
+    let second = DAMAGES[random.between(first + 1, DAMAGES.len() - 1)];
+    let message = damaged_twice(random, DAMAGES[first], second);
+    lines.push(format!("read {} and {}: {}", DAMAGES[first].name(), second.name(), spelled(random, &message)));
     lines
 }
 
@@ -86,12 +89,10 @@ pub fn good_writes(random: &mut Random) -> Vec<String> {
     for kind in KINDS {
         let addressed = random.once_in(2);
         let sketch = Sketch::draw(random, kind, addressed);
-        let name = format!("just enough room, {}", kind_name(kind));
-        lines.push(write_line(random, &name, &sketch, sketch.length()));
+        let spare = random.between(1, 60);
+        let (more, told) = random.pick(&[(0, "just enough room"), (spare, "more room than it takes")]);
+        lines.push(write_line(random, &format!("{told}, {}", kind_name(kind)), &sketch, sketch.length() + more));
     }
-    let sketch = Sketch::any(random);
-    let room = sketch.length() + random.between(1, 60);
-    lines.push(write_line(random, "more room than it takes", &sketch, room));
     let mut sketch = Sketch::draw(random, Kind::Crc, true);
     (sketch.source, sketch.destination) = (letters(random, 63), letters(random, 63));
     lines.push(write_line(random, "two addresses of 63 letters", &sketch, sketch.length()));
@@ -170,7 +171,6 @@ pub fn qos(random: &mut Random) -> Vec<String> {
         (0..5).map(|at| if at == place { random.between(widths[at] + 1, 255) } else { random.up_to(widths[at]) });
     let unfitting: Vec<String> = parts.map(|part| part.to_string()).collect();
     vec![
-        format!("qos any: split {}", random.next() as u16),
         format!("qos one bit: split {}", 1 << random.up_to(15)),
         format!("qos numbers that fit: {fitting}"),
         format!("qos number {place} does not fit: join {}", unfitting.join(" ")),
@@ -181,14 +181,18 @@ pub fn lateness(random: &mut Random) -> Vec<String> {
     let (time, ttl) = (random.number().max(1), random.number() as u16);
     let last = u64::from(time) + u64::from(ttl);
     let (clock, by) = (random.number(), random.between(1, 1_000) as u64);
-    vec![
+    let mut lines = vec![
         format!("late at its last second: flags 1 time {time} ttl {ttl} clock {last}"),
         format!("late one second after: flags {} time {time} ttl {ttl} clock {}", random.byte() | 1, last + 1),
+    ];
+    let others = vec![
         format!("late {by} seconds before: flags 1 time {time} ttl {ttl} clock {}", last.saturating_sub(by)),
         format!("late relative time: flags {} time {time} ttl {ttl} clock {clock}", random.byte() & !1),
         format!("late no time: flags 1 time 0 ttl {ttl} clock {clock}"),
         format!("late no variable header: flags 1 time {time} unaddressed clock {}", random.next()),
-    ]
+    ];
+    lines.extend(some(random, 2, others));
+    lines
 }
 
 pub fn sequences(random: &mut Random) -> Vec<String> {
@@ -197,9 +201,8 @@ pub fn sequences(random: &mut Random) -> Vec<String> {
     let steps = [
         ("a repeat", 0),
         ("the next", 1),
-        ("ahead", ahead),
+        random.pick(&[("ahead", ahead), ("the farthest ahead", (1 << 31) - 1)]),
         ("behind", ahead.wrapping_neg()),
-        ("the farthest ahead", (1 << 31) - 1),
         ("half way round", 1 << 31),
     ];
     steps.map(|(name, by)| format!("sequence {name}: from {old} to {}", old.wrapping_add(by))).to_vec()

@@ -2,6 +2,7 @@
 
 use super::damage::{damaged, DAMAGES};
 use super::sketch::{seal, Sketch};
+use super::some;
 use super::spelled::spelled;
 use crate::envelope::{Kind, COMMON, FIELD};
 use crate::golden::{LONGEST_MESSAGE, PREFIX, RECORD};
@@ -52,13 +53,12 @@ fn comparisons(random: &mut Random, record: usize, golden: &[u8]) -> Scene {
     let other = Sketch::any(random).message();
     let damage = random.pick(&DAMAGES);
     let bad = damaged(random, damage);
-    let (mark, more, fewer) = (random.number(), places + random.between(1, 40), random.between(1, places - 1));
+    let (mark, more, fewer) = (random.number(), places + random.between(1, 40), random.up_to(places - 1));
     let shown = spelled(random, &changed);
     vec![
         format!("compare with itself: record {record} list {mark}*3 with {}", spelled(random, golden)),
         format!("compare a long list: record {record} list {mark}*{more} with {shown}"),
         format!("compare a short list: record {record} list {mark}*{fewer} with {shown}"),
-        format!("compare no list: record {record} list with {shown}"),
         format!("compare another message: record {record} list 1 2 3*30 {mark} with {}", spelled(random, &other)),
         format!("compare {}: record {record} list {mark} 7 with {}", damage.name(), spelled(random, &bad)),
         format!("compare no record: record 3 list {mark} with {shown}"),
@@ -121,13 +121,18 @@ pub fn bad_file(random: &mut Random, refusal: u8) -> Scene {
         format!("find before {name}: {}", sought(&first)),
         format!("find behind {name}: {}", sought(&last)),
         format!("step at {name}: at 1"),
-        format!("walk past {name}:"),
         format!("entry of {name}: at 1"),
-        format!("list {name}:"),
         format!("compare with {name}: record 1 list 5 6 with {}", spelled(random, &first.message())),
+    ]);
+    let whole = vec![format!("walk past {name}:"), format!("list {name}:")];
+    let spoiled = vec![
         format!("{} of {name}: record 1", random.pick(&["edits", "flips", "pairs"])),
         format!("flips beside {name}: record {}", random.pick(&[0, 2])),
-    ]);
+    ];
+    match refusal {
+        23 => scene.extend(whole),
+        _ => scene.extend(some(random, 1, [whole, spoiled].concat())),
+    }
     scene
 }
 
@@ -156,12 +161,11 @@ pub fn odd_file(random: &mut Random) -> Scene {
 /// A file of 129 records, and then one with no room for another.
 pub fn long_file(random: &mut Random) -> Scene {
     let message = Sketch::any(random).message();
-    let (more, at) = (random.between(1, RECORD), random.up_to(200));
+    let more = random.between(1, RECORD);
     vec![
         "file new".to_string(),
         "file zeros 65536".to_string(),
         "check 128 records of zeros:".to_string(),
-        format!("step among 128 records: at {at}"),
         "file zeros 512".to_string(),
         "check 129 records:".to_string(),
         "walk 129 records:".to_string(),

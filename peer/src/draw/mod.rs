@@ -3,6 +3,7 @@
 
 mod damage;
 mod envelope_lines;
+mod feed_scenes;
 mod golden_scenes;
 mod not_understood;
 mod sketch;
@@ -45,7 +46,7 @@ pub fn cases(options: &Options) -> String {
 }
 
 /// Lines that stand on their own, each of which may come anywhere.
-const LINES_DRAWN: [fn(&mut Random) -> Vec<String>; 18] = [
+const LINES_DRAWN: [fn(&mut Random) -> Vec<String>; 19] = [
     envelope_lines::sums,
     envelope_lines::unusual,
     envelope_lines::good_reads,
@@ -62,17 +63,20 @@ const LINES_DRAWN: [fn(&mut Random) -> Vec<String>; 18] = [
     not_understood::words,
     not_understood::numbers,
     not_understood::bytes,
+    not_understood::streams,
     not_understood::left_over,
     not_understood::spoiled_writes,
 ];
 
-/// Lines about one golden file, which stay together.
-const SCENES_DRAWN: [fn(&mut Random) -> Vec<String>; 5] = [
+/// Lines about one golden file or one feed, which stay together.
+const SCENES_DRAWN: [fn(&mut Random) -> Vec<String>; 7] = [
     golden_scenes::good_file,
     golden_scenes::odd_file,
     golden_scenes::long_file,
     golden_scenes::empty_file,
     golden_scenes::mended_file,
+    feed_scenes::good_stream,
+    feed_scenes::pieces,
 ];
 
 fn round(random: &mut Random) -> Vec<String> {
@@ -84,10 +88,19 @@ fn round(random: &mut Random) -> Vec<String> {
         scenes.push(draw(random));
     }
     scenes.extend(golden_scenes::bad_files(random));
+    scenes.extend(feed_scenes::refusals(random));
     for last in (1..scenes.len()).rev() {
         scenes.swap(last, random.up_to(last));
     }
     scenes.concat()
+}
+
+/// So many of these lines, in their order.
+fn some(random: &mut Random, count: usize, mut lines: Vec<String>) -> Vec<String> {
+    while lines.len() > count {
+        lines.remove(random.up_to(lines.len() - 1));
+    }
+    lines
 }
 
 #[cfg(test)]
@@ -104,7 +117,7 @@ mod tests {
     }
 
     /// What a line that begins so must hold in some answer of every drawn file.
-    const MET: [(&str, &str); 26] = [
+    const MET: [(&str, &str); 32] = [
         ("sum", "no bytes: 0 00000000|spaces all over"),
         ("read", "integrity none|integrity crc|integrity application| unaddressed | ttl "),
         ("read", ": refused 1|: refused 2|: refused 3|: refused 4|: refused 5|: refused 6|: refused 7"),
@@ -128,8 +141,14 @@ mod tests {
         ("edits", ": edited |: no message"),
         ("flips", ": flipped "),
         ("pairs", ": flipped "),
+        ("restart", ": count 0 inside kept [00*510]"),
+        ("piece", " nothing count | message |: used 0 nothing |: used 0 refused 52 | whole kept | inside kept "),
+        ("stream", ": message |, used | whole kept "),
+        ("end", ": nothing count |: refused 52 count "),
+        ("", " refused 2 kept| refused 3 kept| refused 4 kept| refused 6 kept| refused 7 kept| refused 51 kept"),
         ("line", ": a command expected|: a name and a colon expected|: bytes expected|: at most 600 numbers expected"),
         ("line", ": the word new expected|: the word split expected|: the word ttl expected|: a number from 0 to 255 "),
+        ("line", ": the word cut expected|: the word of expected|: a number from 0 to 18446744073709551615 expected"),
         ("line", ": at most 300000 bytes expected|: the end of the line expected|: no room for a record in the file"),
     ];
 
@@ -146,7 +165,7 @@ mod tests {
         }
     }
 
-    /// Whatever is drawn to be understood is: 34 lines of a round are not, and one record has no room.
+    /// Whatever is drawn to be understood is: 28 lines of a round are not, and one record has no room.
     #[test]
     fn only_the_lines_meant_so_are_not_understood() {
         let length = round(&mut Random::new(0)).len();
@@ -154,7 +173,7 @@ mod tests {
         for seed in 0..20 {
             let printed = printed(seed, length);
             let told: Vec<&str> = printed.lines().filter(|line| line.starts_with("line ")).collect();
-            assert_eq!(told.len(), 35, "seed {seed}: {told:#?}");
+            assert_eq!(told.len(), 29, "seed {seed}: {told:#?}");
             assert_eq!(printed.lines().count(), length - 2, "two comments print nothing");
         }
     }

@@ -2,6 +2,7 @@
 
 use super::envelope_lines::write_line;
 use super::sketch::Sketch;
+use super::some;
 use crate::random::Random;
 
 /// Comments, which print nothing and are counted all the same.
@@ -22,35 +23,51 @@ pub fn commands_and_names(random: &mut Random) -> Vec<String> {
 pub fn words(random: &mut Random) -> Vec<String> {
     let spaces = " ".repeat(random.up_to(3));
     let (number, other) = (random.number(), random.pick(&["x", "Type", "now", "0", "''"]));
-    vec![
-        format!("find the number before the type: number {number} type 1"),
+    let mut lines = vec![
         format!("late neither unaddressed nor ttl: flags 1 time {number} {other} clock 3"),
         format!("qos neither split nor join: {other} {}", random.byte()),
-        format!("file {other} 00"),
-        format!("file{spaces}"),
+        if random.once_in(2) { format!("file {other} 00") } else { format!("file{spaces}") },
+    ];
+    let others = vec![
+        format!("find the number before the type: number {number} type 1"),
         format!("rewrite nothing behind the room: room {}{spaces}", random.up_to(99)),
         format!("compare no message: record 0 list {number} 2*{}{spaces}", random.up_to(20)),
         format!("sequence no second number: from {number} {other} {number}"),
+    ];
+    lines.extend(some(random, 2, others));
+    lines
+}
+
+pub fn streams(random: &mut Random) -> Vec<String> {
+    let spaces = " ".repeat(random.up_to(3));
+    vec![
+        format!("stream no cut:{spaces} {}", random.pick(&["04", "of 04", "Cut 1 of 04", "cut: 1", ""])),
+        format!("stream no number that fits: cut {} of 04", not_a_number(random)),
+        format!("stream nothing before the bytes: cut {} {}{spaces}", random.number(), random.pick(&["04", ""])),
     ]
 }
 
+/// A word that is no number at all, or too large for any.
+fn not_a_number(random: &mut Random) -> &'static str {
+    random.pick(&["-1", "+1", "0x10", "1.0", "one", "1,000", "''", "18446744073709551616"])
+}
+
 pub fn numbers(random: &mut Random) -> Vec<String> {
-    let word = random.pick(&["-1", "+1", "0x10", "1.0", "one", "1,000", "''", "18446744073709551616"]);
     let over = random.up_to(9);
-    vec![
-        format!("step not a number that fits: at {word}"),
+    let list = random.pick(&["4294967296", "5*", "*5", "x", "5*5*5"]);
+    let mut lines = vec![format!("qos a part too large: join 1 2 3 {} 5", 256 + over)];
+    let others = vec![
+        format!("step not a number that fits: at {}", not_a_number(random)),
         format!("qos a QoS too large: split 6553{}", random.between(6, 9)),
-        format!("qos a part too large: join 1 2 3 {} 5", 256 + over),
         format!("make a room too large: room {} of 00", 1_025 + over),
         format!("sequence a number too large: from {} to 429496729{}", random.number(), random.between(6, 9)),
         format!("entry no number: at{}", " ".repeat(random.up_to(3))),
         format!("file zeros {}", 66_561 + over),
         format!("file change {} 00", 66_561 + over),
-        format!(
-            "compare a bad list: record 0 list 1 {} with 00",
-            random.pick(&["4294967296", "5*", "*5", "x", "5*5*5"])
-        ),
-    ]
+        format!("compare a bad list: record 0 list 1 {list} with 00"),
+    ];
+    lines.extend(some(random, 5, others));
+    lines
 }
 
 pub fn bytes(random: &mut Random) -> Vec<String> {
@@ -58,27 +75,34 @@ pub fn bytes(random: &mut Random) -> Vec<String> {
     let over = random.between(1, 9);
     let fields = "type 1 version 1 flags 0 number 1 time 1 unaddressed";
     let long = format!("source 41*{} destination body integrity 0 room 0", 600 + over);
-    vec![
-        format!("sum not bytes: 00 {word} 00"),
+    let (one, other) = (random.pick(&["sum", "piece"]), random.pick(&["sum", "piece"]));
+    let mut lines = vec![
+        format!("{one} not bytes: 00 {word} 00"),
+        format!("{other} over 300,000 bytes: 00*300000 '' 41*{over} 00"),
+        format!("compare over 600 numbers: record 0 list 1*600 2*0 3*{over} with 00"),
+    ];
+    let others = vec![
         format!("file record {word}"),
-        format!("sum over 300,000 bytes: 00*300000 '' 41*{over} 00"),
         format!("write an address over 600 bytes: {fields} {long}"),
         format!("file bytes 00*{}", 66_560 + over),
         format!("file record 04 00*{}", 509 + over),
         format!("file change 0 00*{}", 66_560 + over),
-        format!("compare over 600 numbers: record 0 list 1*600 2*0 3*{over} with 00"),
-    ]
+    ];
+    lines.extend(some(random, 3, others));
+    lines
 }
 
 pub fn left_over(random: &mut Random) -> Vec<String> {
-    let command = random.pick(&["check", "walk", "list"]);
+    let command = random.pick(&["check", "walk", "list", "restart", "end"]);
     let word = random.pick(&["now", "0", "#", ":"]);
-    vec![
-        format!("{command} a word left over:  {word}"),
+    let mut lines = vec![format!("{command} a word left over:  {word}")];
+    let others = vec![
         format!("qos a sixth number: join 1 2 3 4 5 {}", random.byte()),
         format!("file new {word}"),
         format!("flips two records: record 0 {word}"),
-    ]
+    ];
+    lines.extend(some(random, 2, others));
+    lines
 }
 
 /// A long line that is right but for one word: another stands there, or the line ends with it.
