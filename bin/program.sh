@@ -21,16 +21,16 @@ build() {
     rm -f "$log" "$began"
 }
 
-# launch PROGRAM ARGUMENT..: programs are compiled for x86-64; on Arm the kit's emulator runs them.
+# launch PROGRAM ARGUMENT..: the shell becomes the program. Programs are compiled for x86-64; on Arm the kit's emulator runs them.
 launch() {
     built=$root/target/bin/$1
     shift
     case $(uname -m) in
-    x86_64) "$built" "$@" ;;
+    x86_64) exec "$built" "$@" ;;
     aarch64)
         rt=$(command -v rt) || die 'no rt on the PATH: the emulator comes with the Rattle kit'
         kit=${RATTLE_HOME:-$(cd "$(dirname "$(readlink -f "$rt")")/.." && pwd -P)}
-        "$kit/on/aarch64/toolchain/bin/qemu-x86_64" "$kit/toolchain/lib/ld-linux-x86-64.so.2" --library-path "$kit/toolchain/lib" "$built" "$@"
+        exec "$kit/on/aarch64/toolchain/bin/qemu-x86_64" "$kit/toolchain/lib/ld-linux-x86-64.so.2" --library-path "$kit/toolchain/lib" "$built" "$@"
         ;;
     *) die "no way to run a program on $(uname -m)" ;;
     esac

@@ -1,1 +1,2 @@
 pub mod DecimalLaws
+pub mod WatchLaws

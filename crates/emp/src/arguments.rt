@@ -16,6 +16,9 @@ pub enum Command {
     Read,
     Sum,
     Make,
+    // Standard input, alone or beside a golden file.
+    Watch,
+    WatchBeside,
     Help,
     None,
 }
@@ -38,6 +41,7 @@ pub fn asked() -> Command {
             unknown(&word[..size]);
             Command::None
         }
+        Command::Watch => watch_with(given - FRONT),
         _ => with_its_words(command, given - FRONT),
     }
 }
@@ -49,6 +53,14 @@ fn unknown(word: &[u8]) {
         STDERR_FILENO,
         b"' is no command; emp help tells what there is\n",
     );
+}
+
+// The golden file may be left out.
+fn watch_with(given: usize) -> Command {
+    if given == 0 {
+        return Command::Watch;
+    }
+    with_its_words(Command::WatchBeside, given)
 }
 
 fn with_its_words(command: Command, given: usize) -> Command {
@@ -103,6 +115,9 @@ fn message_command_of(word: &[u8]) -> Command {
     }
     if alike(word, b"make") {
         return Command::Make;
+    }
+    if alike(word, b"watch") {
+        return Command::Watch;
     }
     if alike(word, b"help") {
         return Command::Help;

@@ -18,10 +18,14 @@ emp compare GOLDEN RECORD RADIO  a record beside the radio's message: same, or w
 emp read MESSAGE                 every field of a message, or its refusal
 emp sum FILE                     the CRC of all bytes of a file
 emp make MESSAGE                 the record of 512 bytes that holds a message, to standard output
+emp watch [GOLDEN]               every message of standard input the moment its last byte is in, and the record
+                                 of its type and number: same, or in how many places the two differ
 emp help                         this
 
 GOLDEN, RADIO, MESSAGE and FILE are names of files, from which at most 65536 bytes are taken.
 TYPE, NUMBER and RECORD are numbers in digits; the first record is 0.
+watch checks GOLDEN before it reads a byte, tells of each message how its number follows the one before, and ends
+at the first refusal, with status 1, or at the end of standard input, with status 0 also where messages differ.
 
 Exit status
    0  done, good, or the same
@@ -34,6 +38,7 @@ Refusals",
     reading_refusals();
     golden_refusals();
     radio_refusals();
+    stream_refusals();
     end_answer(Status::Done)
 }
 
@@ -62,6 +67,11 @@ fn radio_refusals() {
     refusal(33);
     refusal(34);
     refusal(35);
+}
+
+fn stream_refusals() {
+    refusal(51);
+    refusal(52);
 }
 
 fn refusal(n: u8) {

@@ -1,6 +1,7 @@
 // The operator's tool: what a golden file, a message or any other file holds, in plain words. Files are only read.
-// Rests on the crates `sum`, `envelope` and `golden`, which decide every answer; here it is only told.
+// Rests on the crates `sum`, `envelope`, `golden` and `feed`, which decide every answer; here it is only told.
 mod arguments;
+mod arrival;
 mod checking;
 mod comparing;
 mod decimal;
@@ -8,6 +9,7 @@ mod files;
 mod finding;
 mod help;
 mod layout;
+mod line;
 mod listing;
 mod making;
 mod marking;
@@ -16,6 +18,7 @@ mod reading;
 mod refusals;
 mod status;
 mod summing;
+mod watching;
 mod words;
 
 use crate::arguments::Command;
@@ -37,6 +40,7 @@ fn run() -> Status {
     match command {
         Command::None => Status::Complained,
         Command::Help => help::help(),
+        Command::Watch => watching::watch_alone(),
         _ => on_file(command),
     }
 }
@@ -63,7 +67,7 @@ fn most_for(command: Command) -> usize {
     }
 }
 
-// The last two take no file, and are answered before.
+// The last three take no file, and are answered before.
 fn answer(command: Command, file: &[u8]) -> Status {
     match command {
         Command::List => listing::list_file(file),
@@ -73,6 +77,8 @@ fn answer(command: Command, file: &[u8]) -> Status {
         Command::Read => reading::read_message(file),
         Command::Sum => summing::sum_file(file),
         Command::Make => making::make_record(file),
+        Command::WatchBeside => watching::watch_beside(file),
+        Command::Watch => Status::Complained,
         Command::Help => Status::Complained,
         Command::None => Status::Complained,
     }

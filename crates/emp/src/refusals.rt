@@ -6,6 +6,7 @@ use crate::printing::text_number;
 use crate::status::Status;
 use crate::words::words;
 use envelope::Refusal;
+use feed::Fault;
 use golden::RecordFault;
 use libc::STDERR_FILENO;
 use libc::STDOUT_FILENO;
@@ -46,6 +47,10 @@ pub fn beginning() {
 
 pub fn unread(refusal: Refusal) {
     let fault = refusal.fault;
+    refused(STDOUT_FILENO, fault.number(), NO_READING);
+}
+
+pub fn stream_refused(fault: Fault) {
     refused(STDOUT_FILENO, fault.number(), NO_READING);
 }
 

@@ -8,6 +8,7 @@ pub fn words(to: i32, number: u8) {
     match number {
         1..=7 => words_of_reading(to, number),
         21..=27 => words_of_golden(to, number),
+        51..=52 => words_of_stream(to, number),
         _ => words_of_radio(to, number),
     }
 }
@@ -69,6 +70,13 @@ fn words_of_radio(to: i32, number: u8) {
     }
 }
 
+fn words_of_stream(to: i32, number: u8) {
+    match number {
+        51 => say(to, b"the announced length is over 510 bytes"),
+        _ => say(to, b"the end came inside a message"),
+    }
+}
+
 // A field by its place in the order of the envelope's table.
 pub fn field_name(order: u8) {
     match order {
@@ -106,5 +114,6 @@ pub fn form(to: i32, command: Command) {
         Command::Make => say(to, b"emp make MESSAGE"),
         Command::Help => say(to, b"emp help"),
         Command::None => say(to, b"emp COMMAND"),
+        _ => say(to, b"emp watch [GOLDEN]"),
     }
 }
