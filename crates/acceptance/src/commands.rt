@@ -1,8 +1,10 @@
 // One line of cases: a comment, or a command that the table has.
-// Rests on `reader` for its arguments; `file_lines`, `envelope_lines`, `golden_lines` and `changes` run it.
+// Rests on `reader` for its arguments; `file_lines`, `envelope_lines`, `golden_lines`, `changes` and `feed_lines` run it.
 use crate::changes::series_line;
 use crate::envelope_lines::envelope_line;
 use crate::envelope_lines::lent_line;
+use crate::feed_lines::KEPT;
+use crate::feed_lines::feed_line;
 use crate::file_lines::file_line;
 use crate::golden_lines::compare_line;
 use crate::golden_lines::golden_line;
@@ -25,12 +27,20 @@ use crate::words::byte_at;
 use crate::words::past_spaces;
 use crate::words::place_of;
 use check::same;
+use exports::feeds::NUMBERS;
 
 // Runs a line, and answers how many bytes the file has after it.
 // A row has a letter, the command, the tokens of its arguments, and behind the equals sign the template of its answer.
 // The tokens, where X is the letter of a number and m that of a most: a word that must stand; `#Xm` a number; `@Xm/word` BYTES up to the word,
 // and in X where it ends; `+Xm/word` LIST; `?word .. | .. .` what follows the word if it stands there, and else what follows the bar.
-pub fn run_line(line: &[u8], number: usize, used: usize, memory: &mut [u8; MEMORY]) -> usize {
+pub fn run_line(
+    line: &[u8],
+    number: usize,
+    used: usize,
+    memory: &mut [u8; MEMORY],
+    kept: &mut [u8; KEPT],
+    standing: &mut [u64; NUMBERS],
+) -> usize {
     run_row(
         b"f file ?record @Ad | ?bytes @Az | ?zeros #Bz | ?change #Bp @Ac | new . =
 a sum @Am =#A $B
@@ -51,11 +61,17 @@ F list =?E47 #F ?E4 #A #B #C ?E37 refused #n #r ?E0 records #c ?D1 ~;
 0 edits record #A8 =?k1 edited #A refused #B ?k03 no message
 1 flips record #A8 =?k1 flipped #A refused #B ?k03 no message
 2 pairs record #A8 =?k1 flipped #A refused #B ?k03 no message
+* restart =
++ piece @Am =used #c ?k0 nothing ?k23 refused #n ?k1 message #v accepted type #A version #B flags #C number #D time #E ?F0 unaddressed ?F1 ttl #G qos #H source #I #J [ &IJ ~] destination #K #L [ &KL ~] ?k1 body #M #N [ &MN ~] integrity ?O0 none ?O1 crc $P ?O2 application $P
+, stream cut #A8 of @Bm =used #A
+- end =?k0 nothing ?k23 refused #n
 ",
         line,
         number,
         used,
         memory,
+        kept,
+        standing,
     )
 }
 
@@ -66,6 +82,8 @@ fn run_row(
     number: usize,
     used: usize,
     memory: &mut [u8; MEMORY],
+    kept: &mut [u8; KEPT],
+    standing: &mut [u64; NUMBERS],
 ) -> usize {
     let mut numbers = [
         0,
@@ -95,6 +113,8 @@ fn run_row(
         row,
         &mut numbers,
         memory,
+        kept,
+        standing,
     )
 }
 
@@ -165,6 +185,8 @@ fn run_read(
     row: &[u8],
     numbers: &mut [u64; 16],
     memory: &mut [u8; MEMORY],
+    kept: &mut [u8; KEPT],
+    standing: &mut [u64; NUMBERS],
 ) -> usize {
     let used = place_at(numbers, USED);
     match code {
@@ -177,6 +199,8 @@ fn run_read(
                 between(row, place_of(row, 0, b'=') + 1, row.len()),
                 numbers,
                 memory,
+                kept,
+                standing,
             );
             text(b"\n");
             used
@@ -184,9 +208,17 @@ fn run_read(
     }
 }
 
-// The letters of the rows are such that those of a module stand together: digits, capitals from P on, small letters, small ones from p on, and capitals.
-fn answer(code: u8, template: &[u8], numbers: &mut [u64; 16], memory: &mut [u8; MEMORY]) {
+// The letters of the rows are such that those of a module stand together: signs, digits, capitals from P on, small letters, small ones from p on, and capitals.
+fn answer(
+    code: u8,
+    template: &[u8],
+    numbers: &mut [u64; 16],
+    memory: &mut [u8; MEMORY],
+    kept: &mut [u8; KEPT],
+    standing: &mut [u64; NUMBERS],
+) {
     match code / 16 {
+        2 => feed_line(code, template, numbers, memory, kept, standing),
         3 => series_line(code, template, numbers, memory),
         5 => lent_line(code, template, numbers, memory),
         6 => envelope_line(code, template, numbers, memory),

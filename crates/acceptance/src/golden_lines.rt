@@ -64,7 +64,7 @@ pub fn step(file: &[u8], record: usize, numbers: &mut [u64; 16]) -> u64 {
     word
 }
 
-fn count_of(word: u64) -> u64 {
+pub fn count_of(word: u64) -> u64 {
     word / 0x1_0000 % 0x1_0000
 }
 

@@ -4,6 +4,7 @@ mod byte_words;
 mod changes;
 mod commands;
 mod envelope_lines;
+mod feed_lines;
 mod file_lines;
 mod golden_lines;
 mod numbers;
@@ -12,10 +13,12 @@ mod reader;
 mod words;
 
 use crate::commands::run_line;
+use crate::feed_lines::KEPT;
 use crate::printing::remark;
 use crate::reader::MEMORY;
 use crate::words::between;
 use crate::words::place_of;
+use exports::feeds::NUMBERS;
 use libc::STDIN_FILENO;
 
 // The most bytes that are read. The buffer has one more, so that a longer input is seen to be longer.
@@ -25,11 +28,23 @@ fn main() {
     let mut input = [0u8; INPUT + 1];
     let size = io::read_full(STDIN_FILENO, &mut input);
     let mut memory = [0u8; MEMORY];
-    run_all(between(&input, 0, size), &mut memory);
+    let mut kept = [0u8; KEPT];
+    let mut standing = [0u64; NUMBERS];
+    run_all(
+        between(&input, 0, size),
+        &mut memory,
+        &mut kept,
+        &mut standing,
+    );
 }
 
 // Each turn takes a line feed, or is the last.
-fn run_all(input: &[u8], memory: &mut [u8; MEMORY]) {
+fn run_all(
+    input: &[u8],
+    memory: &mut [u8; MEMORY],
+    kept: &mut [u8; KEPT],
+    standing: &mut [u64; NUMBERS],
+) {
     let mut used = 0;
     let mut at = 0;
     let mut number = 1;
@@ -38,7 +53,14 @@ fn run_all(input: &[u8], memory: &mut [u8; MEMORY]) {
         if INPUT < input.len() && INPUT <= stop {
             return cut(number);
         }
-        used = run_line(between(input, at, stop), number, used, memory);
+        used = run_line(
+            between(input, at, stop),
+            number,
+            used,
+            memory,
+            kept,
+            standing,
+        );
         at = stop + 1;
         number += 1;
     }
