@@ -138,10 +138,13 @@ lent-is s v h =
     let e : headerSize + v - addressesPlace ≡ v - routingSize = omega arith in
     ap (λ (k : ℕ). take k (drop addressesPlace s)) e
 
-pub ends-broken : (s : List ℕ) (v : ℕ) → 6 ≤ v → none ≡ unless (not (twoAddresses (lent s v))) (sizes (lent s v)) → badAddresses s v ≡ true
+-- rule 6 of a variable header that is there
+pub addresses-present : (s : List ℕ) (v : ℕ) → 6 ≤ v → badAddresses s v ≡ not (twoAddresses (lent s v))
 unfolding badAddresses
-ends-broken s v h e =
-    rw (ne-eqb v 0 (λ z. omega arith), ← lent-is s v h) (missing (not (twoAddresses (lent s v))) (sizes (lent s v)) e)
+addresses-present s v h = rw (ne-eqb v 0 (λ z. omega arith), ← lent-is s v h)
+
+pub ends-broken : (s : List ℕ) (v : ℕ) → 6 ≤ v → none ≡ unless (not (twoAddresses (lent s v))) (sizes (lent s v)) → badAddresses s v ≡ true
+ends-broken s v h e = addresses-present s v h ∙ missing (not (twoAddresses (lent s v))) (sizes (lent s v)) e
 
 -- two sizes that were found: the rule is kept, and they are the definition's
 pub record Found (s : List ℕ) (v a b : ℕ) : Type 0 where
@@ -152,7 +155,6 @@ pub record Found (s : List ℕ) (v a b : ℕ) : Type 0 where
 
 pub ends-found : (s : List ℕ) (v a b : ℕ) → 6 ≤ v
     → some (record { source = a; destination = b }) ≡ unless (not (twoAddresses (lent s v))) (sizes (lent s v)) → Found s v a b
-unfolding badAddresses
 ends-found s v a b h e =
     let k = kept (not (twoAddresses (lent s v))) (sizes (lent s v)) (record { source = a; destination = b }) e in
     let z = lent-is s v h in
@@ -160,7 +162,7 @@ ends-found s v a b h e =
     let q : b ≡ destinationSize (lent s v) = ap (λ (x : Sizes). x .destination) (k .1) in
     let g = two-scanned (lent s v) (not-false _ (k .0)) in
     record {
-      good = rw (ne-eqb v 0 (λ z. omega arith), ← lent-is s v h) (k .0);
+      good = addresses-present s v h ∙ k .0;
       source = p ∙ ap sourceSize z;
       destination = q ∙ ap destinationSize z;
       small = omega (arith, g .source);

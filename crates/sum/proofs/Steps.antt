@@ -28,6 +28,30 @@ bitStep-is : (state : ℕ) → bitStep state ≡ reduced (state % 2) (state / 2)
 unfolding bitStep
 bitStep-is state = by-the-bit (state % 2) (state / 2)
 
+-- a step by itself: of an even state, and of an odd one
+pub bitStep-even : (a : ℕ) → bitStep (a * 2) ≡ a
+unfolding reduced
+bitStep-even a =
+    let low : a * 2 % 2 ≡ 0 = omega arith in
+    let high : a * 2 / 2 ≡ a = omega arith in
+    bitStep-is (a * 2) ∙ ap₂ reduced low high
+
+pub bitStep-odd : (a : ℕ) → bitStep (a * 2 + 1) ≡ bitXor a polynomial
+unfolding reduced
+bitStep-odd a =
+    let low : (a * 2 + 1) % 2 ≡ 1 = omega arith in
+    let high : (a * 2 + 1) / 2 ≡ a = omega arith in
+    bitStep-is (a * 2 + 1) ∙ ap₂ reduced low high
+
+-- no step, and one step more
+pub bitSteps-none : (state : ℕ) → bitSteps 0 state ≡ state
+unfolding bitSteps
+bitSteps-none state = refl
+
+pub bitSteps-next : (n state : ℕ) → bitSteps (suc n) state ≡ bitSteps n (bitStep state)
+unfolding bitSteps
+bitSteps-next n state = refl
+
 -- ---- linear
 
 reduced-linear : (x y a b : ℕ) → x < 2 → y < 2 → reduced (differ x y) (bitXor a b) ≡ bitXor (reduced x a) (reduced y b)

@@ -1,0 +1,98 @@
+-- Each rule of reading by itself, and reading as the table of them: what a second reader cites.
+-- So it opens none of these definitions.
+use mathlib.Core.Bool.{Bool, true, false, cond, not}
+use mathlib.Core.List.{List}
+use mathlib.Core.Path.{_≡_, refl, ap}
+use Prim.Native.Nat.{ℕ, _≤_, _<_, _+_, _/_}
+use native.Mathlib.Omega.{arith}
+use borrow.Author.Tests.{eq-eqb, ne-eqb, le-leb, lt-leb}
+use lib.Dec.{eqb, ltb}
+use lib.ListN.{take}
+use Rattle.sum.specs.Crc.{crc32}
+use Rattle.envelope.specs.Addresses.{badAddresses}
+use Rattle.envelope.specs.Fields.{Answer, accepted, refusal}
+use Rattle.envelope.specs.Flags.{kindOf, kindNone, kindCrc, kindUnassigned, badFlags}
+use Rattle.envelope.specs.Heading.{flagsOf, variableSize, fieldPlace, wrongVersion, badVariableSize, passed, broken, heading}
+use Rattle.envelope.specs.IntegrityField.{badIntegrity}
+use Rattle.envelope.specs.Layout.{largestVariable}
+use Rattle.envelope.specs.Numbers.{byteAt, threeBytes, fourBytes, threeAt, fourAt}
+use Rattle.envelope.specs.Reading.{tooShort, wrongLength, fieldsOf, readingWhole, after, reading}
+
+-- ---- the numbers at a place
+
+pub threeAt-is : (s : List ℕ) (i : ℕ) → threeAt s i ≡ threeBytes (byteAt s i) (byteAt s (i + 1)) (byteAt s (i + 2))
+unfolding threeAt
+threeAt-is s i = refl
+
+pub fourAt-is : (s : List ℕ) (i : ℕ) → fourAt s i ≡ fourBytes (byteAt s i) (byteAt s (i + 1)) (byteAt s (i + 2)) (byteAt s (i + 3))
+unfolding fourAt
+fourAt-is s i = refl
+
+-- ---- rule 3
+
+pub flags-unassigned : (flags : ℕ) → (flags / 32 ≡ 0 → ⊥) → badFlags flags ≡ true
+unfolding badFlags
+flags-unassigned flags h = rw (ne-eqb (flags / 32) 0 h)
+
+pub flags-assigned : (flags : ℕ) → flags / 32 ≡ 0 → badFlags flags ≡ eqb (kindOf flags) kindUnassigned
+unfolding badFlags
+flags-assigned flags h = rw (eq-eqb (flags / 32) 0 h)
+
+-- ---- rule 4
+
+pub size-absent : (v : ℕ) → v ≡ 0 → badVariableSize v ≡ false
+unfolding badVariableSize
+size-absent v e = rw e
+
+pub size-small : (v : ℕ) → 1 ≤ v → v ≤ 5 → badVariableSize v ≡ true
+unfolding badVariableSize
+size-small v h k = rw (le-leb 1 v h, le-leb v 5 k)
+
+pub size-large : (v : ℕ) → 5 < v → badVariableSize v ≡ ltb largestVariable v
+unfolding badVariableSize
+size-large v h = rw (le-leb 1 v (omega arith), lt-leb v 5 h)
+
+-- ---- rule 6; where there are addresses, AddressLaws has it
+
+pub addresses-absent : (s : List ℕ) (v : ℕ) → v ≡ 0 → badAddresses s v ≡ false
+unfolding badAddresses
+addresses-absent s v e = rw (eq-eqb v 0 e)
+
+-- ---- rule 7
+
+module _ (s : List ℕ) (kind place : ℕ) where
+  pub integrity-none : kind ≡ kindNone → badIntegrity s kind place ≡ not (eqb (fourAt s place) 0)
+  unfolding badIntegrity
+  integrity-none e = rw (eq-eqb kind kindNone e)
+
+  pub integrity-crc : kind ≡ kindCrc → badIntegrity s kind place ≡ not (eqb (fourAt s place) (crc32 (take place s)))
+  unfolding badIntegrity
+  integrity-crc e = rw e
+
+  pub integrity-other : (kind ≡ kindNone → ⊥) → (kind ≡ kindCrc → ⊥) → badIntegrity s kind place ≡ false
+  unfolding badIntegrity
+  integrity-other n c = rw (ne-eqb kind kindNone n, ne-eqb kind kindCrc c)
+
+-- ---- the table
+
+after-heading : (a b c : Bool) (rest : Answer)
+    → after (cond a (broken 2) (cond b (broken 3) (cond c (broken 4) passed))) rest
+    ≡ cond a (refusal 2) (cond b (refusal 3) (cond c (refusal 4) rest))
+after-heading true b c rest = refl
+after-heading false true c rest = refl
+after-heading false false true rest = refl
+after-heading false false false rest = refl
+
+pub reading-by-rules : (s : List ℕ) → reading s
+    ≡ cond (tooShort s) (refusal 1)
+    (cond (wrongVersion s) (refusal 2)
+    (cond (badFlags (flagsOf s)) (refusal 3)
+    (cond (badVariableSize (variableSize s)) (refusal 4)
+    (cond (wrongLength s) (refusal 5)
+    (cond (badAddresses s (variableSize s)) (refusal 6)
+    (cond (badIntegrity s (kindOf (flagsOf s)) (fieldPlace s)) (refusal 7)
+    (accepted (fieldsOf s))))))))
+unfolding reading readingWhole heading
+reading-by-rules s =
+    ap (cond (tooShort s) (refusal 1))
+    (after-heading (wrongVersion s) (badFlags (flagsOf s)) (badVariableSize (variableSize s)) _)
