@@ -1,0 +1,49 @@
+-- The two readers agree, and so do the two sums: each statement is a type, with its proof in proofs/AgreementLaws and DivisionLaws.
+-- They are stated of the definitions, and of any answers that keep the promises of `read`, `judge` and `Judging::lowest`.
+use Prim.Native.Nat.{ℕ}
+use mathlib.Core.Bool.{Bool, true, false}
+use mathlib.Core.List.{List, [], _∷_}
+use mathlib.Core.Path.{_≡_}
+use Rattle.sum.specs.Crc.{crc32}
+use Rattle.sum.specs.Detection.{Bytes}
+use Rattle.envelope.specs.Fields.{Answer, accepted, refused}
+use Rattle.envelope.specs.Reading.{reading}
+use Rattle.envelope.specs.Told.{told, Reads}
+use Rattle.envelope.specs.declared.reader.Reading.{Reading}
+use Rattle.judge.specs.Division.{divided}
+use Rattle.judge.specs.Rules.{judging, brokenRules, lowestOf}
+use Rattle.judge.specs.Told.{toldJudging, Judges, TellsLowest}
+use Rattle.judge.specs.declared.judging.Judging.{Judging}
+
+abbrev pub noneOf : List ℕ → Bool
+noneOf [] = true
+noneOf (n ∷ rest) = false
+
+abbrev pub isAccepted : Answer → Bool
+isAccepted (accepted f) = true
+isAccepted (refused r) = false
+
+-- 0 where it accepts
+abbrev pub readingNumber : Answer → ℕ
+readingNumber (accepted f) = 0
+readingNumber (refused r) = r .number
+
+-- none is broken exactly when the first reader accepts, and the lowest broken number is the first reader's
+abbrev pub Agree : List ℕ → Answer → Type 0
+Agree numbers answer = (noneOf numbers ≡ isAccepted answer) × (lowestOf numbers ≡ readingNumber answer)
+
+abbrev pub ReadersAgree : Type 0
+ReadersAgree = (s : List ℕ) → Agree (brokenRules (judging s)) (reading s)
+
+abbrev pub AnswersAgree : Type 0
+AnswersAgree =
+    (s : List ℕ) (r : Reading) (j : Judging) → Reads s r → Judges s j → Agree (brokenRules (toldJudging j)) (told r)
+
+-- the number that the judge hands out is the one that reading gave
+abbrev pub LowestIsReadings : Type 0
+LowestIsReadings =
+    (s : List ℕ) (r : Reading) (j : Judging) (n : ℕ) → Reads s r → Judges s j → TellsLowest j n → n ≡ readingNumber (told r)
+
+-- the CRC that division finds is the sum, for every list of bytes
+abbrev pub DividedIsCrc : Type 0
+DividedIsCrc = (s : List ℕ) → Bytes s → divided s ≡ crc32 s

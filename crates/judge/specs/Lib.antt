@@ -1,0 +1,5 @@
+pub mod Division
+pub mod Quotient
+pub mod Rules
+pub mod Told
+pub mod Agreement
