@@ -26,6 +26,10 @@ use Rattle.envelope.specs.declared.writer.WriteFault.{WriteFault}
 use Rattle.envelope.proofs.AnnouncingLaws.{only-announces}
 use Rattle.envelope.proofs.OnlyLaws as only
 use Rattle.envelope.proofs.WriteLaws.{refusal-writes-nothing}
+use Rattle.judge.specs.Division.{Divides}
+use Rattle.judge.specs.Told.{Judges, TellsLowest}
+use Rattle.judge.specs.declared.judging.Judging.{Judging}
+use Rattle.judge.proofs.OnlyLaws as judge
 use Rattle.golden.specs.Checking.{Checks}
 use Rattle.golden.specs.Comparing.{Compares}
 use Rattle.golden.specs.Finding.{NameFields, Finds}
@@ -135,6 +139,17 @@ make-has-one-outcome = golden.only-makes
 
 pub record-fault-numbers-have-one-answer : (f : RecordFault) → Only₁ (NumbersRecordFault f)
 record-fault-numbers-have-one-answer = golden.only-numbers-record-fault
+
+-- ---- the judge
+
+pub judge-has-one-answer : (bytes : List ℕ) → Only₁ (Judges bytes)
+judge-has-one-answer = judge.only-judges
+
+pub lowest-has-one-answer : (j : Judging) → Only₁ (TellsLowest j)
+lowest-has-one-answer = judge.only-tells-lowest
+
+pub divide-has-one-answer : (bytes : List ℕ) → Only₁ (Divides bytes)
+divide-has-one-answer = judge.only-divides
 
 -- ---- the feed: the answer and the later feed, or the later content of the bytes lent
 

@@ -10,9 +10,12 @@ pub mod Demand1
 pub mod Demand2
 pub mod Demand3
 pub mod Feeding
+pub mod SecondReader
+pub mod JudgeCases
 pub mod WrongAnswers
 pub mod WrongGolden
 pub mod WrongFeeds
+pub mod WrongJudges
 pub mod WrongExports
 pub mod WrongRules
 pub mod WrongStatements

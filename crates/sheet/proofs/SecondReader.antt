@@ -1,0 +1,25 @@
+-- K5: the two readers agree on every input, and the two ways to the sum on every list of bytes.
+-- Of the definitions first, then of any answers that keep the promises of `read`, `judge` and `Judging::lowest`.
+use Rattle.judge.specs.Agreement.{ReadersAgree, AnswersAgree, LowestIsReadings, DividedIsCrc}
+use Rattle.judge.specs.Quotient.{IsDivision}
+use Rattle.judge.proofs.AgreementLaws as agreement
+use Rattle.judge.proofs.DivisionLaws as division
+use Rattle.judge.proofs.QuotientLaws as quotient
+
+pub readers-agree : ReadersAgree
+readers-agree = agreement.readers-agree
+
+pub answers-agree : AnswersAgree
+answers-agree = agreement.answers-agree
+
+pub lowest-is-readings : LowestIsReadings
+lowest-is-readings = agreement.lowest-is-readings
+
+-- ---- the division
+
+pub divided-is-crc : DividedIsCrc
+divided-is-crc = division.divided-is-crc
+
+-- dividend = quotient times divisor, plus a remainder of at most 32 digits
+pub is-division : IsDivision
+is-division = quotient.is-division
