@@ -86,7 +86,8 @@ judgeCases =
     -- the addresses are there, the field is not; then the addresses are not all there
     ∷ case (addressed 7 (0x41 ∷ 0x41 ∷ 0 ∷ []) []) (5 ∷ 6 ∷ []) (7 ∷ [])
     ∷ case (addressed 7 (0x41 ∷ 0x41 ∷ []) []) (5 ∷ []) (6 ∷ 7 ∷ [])
-    -- as many at once as can be
+    -- as many at once as can be, with rule 1 and without
+    ∷ case (take 17 (set (set (set M 0 3) 4 0x20) 16 5)) (1 ∷ 2 ∷ 3 ∷ 4 ∷ 5 ∷ []) (6 ∷ 7 ∷ [])
     ∷ case (set (set (addressed 7 (0x41 ∷ 0x41 ∷ 0 ∷ []) (0 ∷ 0 ∷ 0 ∷ 1 ∷ 0 ∷ [])) 0 3) 4 0x20) (2 ∷ 3 ∷ 5 ∷ 6 ∷ 7 ∷ []) []
     ∷ []
 
