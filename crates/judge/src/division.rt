@@ -1,5 +1,5 @@
 // The CRC by long division, one binary digit after the other, as it is done by hand.
-// No step, no number and no table of the crate `sum`: that both come to the same is proved.
+// It takes no step of the crate `sum`; that both come to the same is proved.
 ghost use mathlib.Core.Path.{_≡_};
 ghost use Prim.Native.Nat.{_+_, _<_};
 ghost use lib.ListN.{length, getD};

@@ -1,12 +1,11 @@
 -- Four judges that are wrong, and for each public function of the judge two answers that a careless program would give, each refuted by computing.
 -- Whatever else such an answer says: what is refuted is one verdict or one number of it.
-use mathlib.Core.List.{List, [], _∷_, _++_}
+use mathlib.Core.List.{[], _∷_, _++_}
 use mathlib.Core.Path.{_≡_, ap, sym, _∙_}
 use Prim.Native.Nat.{ℕ}
 use lib.ListN.{length, take, set}
 use Rattle.sum.specs.Vectors.{digits}
-use Rattle.envelope.specs.Flags.{badFlags}
-use Rattle.envelope.specs.Heading.{announced, badVariableSize}
+use Rattle.envelope.specs.Heading.{announced}
 use Rattle.envelope.specs.IntegrityField.{badIntegrity}
 use Rattle.envelope.specs.Numbers.{threeAt, fourAt}
 use Rattle.judge.specs.Division.{Divides}
