@@ -206,19 +206,22 @@ enum {
     MORLEWEN_FEED_ROOM = 510
 };
 
-/* How a feed stands. 1 to 7, 51 and 52: refused, by that number. 0: inside a message, of which so many bytes are in, or between
- * messages with none; a MORLEWEN_FEED_COUNT of 510 or more stands for none. 255: the message is whole. Any other number stands
- * for 255, and morlewen_feed_take and morlewen_feed_end put 255 in its place, also where nothing else changes. */
+/* How a feed stands. 1 to 7, 51 and 52: refused, by that number (1 and 5 only in storage that no calls lead to). 0: inside a
+ * message, of which so many bytes are in, or between messages with none; a MORLEWEN_FEED_COUNT of 510 or more stands for none.
+ * 255: the message is whole. Any other number stands for 255, and morlewen_feed_take and morlewen_feed_end put 255 in its
+ * place, also where nothing else changes. */
 enum { MORLEWEN_FEED_INSIDE = 0, MORLEWEN_FEED_WHOLE = 255 };
 
+/* A feed in one piece, for whom it suits: morlewen_feed_take(feed.kept, feed.numbers, ..). */
 typedef struct {
     uint64_t numbers[MORLEWEN_FEED_NUMBERS];
     uint8_t kept[MORLEWEN_FEED_ROOM];
 } morlewen_feed;
 
 /* Takes a piece: uses its bytes until a message is complete, something is refused, or the piece is used up. The slot `count` is
- * how many bytes were used, whatever the answer; what is left of the piece goes into the next call. Bytes go to their places among
- * those kept, and the others there stay.
+ * how many bytes were used, at most 510, whatever the answer; what is left of the piece goes into the next call. Of a piece that
+ * is not empty a byte at least is used, unless a refusal stands. Bytes go to their places among those kept, and the others there
+ * stay.
  * Done: `value` is the size of the message found, its bytes are the first of those kept until the next byte or a restart, and
  * every one of the sixteen fields is written as morlewen_read would; or `value` is 0: none yet, and `fields` is as it was.
  * Refused: with the 17th byte of a message 2, 3, 4 or 51; with the last byte of the announced length 6 or 7. That byte is the

@@ -1,5 +1,5 @@
 /* watch: prints a line for each message that arrives on standard input, the moment its last byte is in.
- * Exit status: 0 the input ended between messages, 1 a refusal, 2 the input cannot be read. */
+ * Exit status: 0 the input ended between messages, 1 a refusal, 2 the input cannot be read or the output written. */
 #include <errno.h>
 #include <inttypes.h>
 #include <stdio.h>
@@ -51,7 +51,7 @@ int main(void)
     uint64_t position = 0;
     unsigned refusal = MORLEWEN_DONE;
     ssize_t length = 0;
-    while (refusal == MORLEWEN_DONE && (length = next_piece(piece)) > 0)
+    while (refusal == MORLEWEN_DONE && !ferror(stdout) && (length = next_piece(piece)) > 0)
         refusal = take(&feed, piece, (size_t)length, &position);
     if (length < 0) {
         fprintf(stderr, "watch: standard input: %s\n", strerror(errno));
@@ -59,9 +59,11 @@ int main(void)
     }
     if (refusal == MORLEWEN_DONE)
         refusal = morlewen_number(morlewen_feed_end(feed.numbers));
-    if (refusal != MORLEWEN_DONE) {
+    if (refusal != MORLEWEN_DONE)
         printf("refused %u after %" PRIu64 " bytes\n", refusal, position);
-        return 1;
+    if (fflush(stdout) != 0 || ferror(stdout)) {
+        fprintf(stderr, "watch: standard output cannot be written\n");
+        return 2;
     }
-    return 0;
+    return refusal == MORLEWEN_DONE ? 0 : 1;
 }
