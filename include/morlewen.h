@@ -1,4 +1,5 @@
-/* Morlewen: EMP envelopes (AAR S-9354), golden files of reference messages, and messages as they arrive, for C and C++.
+/* Morlewen: EMP envelopes (AAR S-9354), a judge of them, golden files of reference messages, and messages as they arrive,
+ * for C and C++.
  *
  * Link libexports.a (README.md says how it is built). Each function is proved to give the one answer told here, for any
  * input, and to end; none allocates, prints, keeps state or touches a file, so all may be called from several threads.
@@ -12,7 +13,7 @@
  * THE ANSWER. A function that can refuse, has two things to tell, or tells a size returns one 64-bit number of four slots:
  *
  *   bits  0-7   number    0: done. Otherwise the refusal, by the numbers below.
- *   bits  8-15  reading   with 25, 31 and 34 the number (1-7) that reading gave; otherwise 0.
+ *   bits  8-15  reading   with 25, 31 and 34, and from morlewen_judge, the number (1-7) that reading gives; otherwise 0.
  *   bits 16-31  count     a number of records, or what else a function says; otherwise 0.
  *   bits 32-63  value     done: a length, a total, or what else a function says; otherwise 0.
  *                         refused: kept for a place in the message; 0 in this version.
@@ -157,6 +158,23 @@ enum { MORLEWEN_REPEAT = 0, MORLEWEN_NEXT = 1, MORLEWEN_AHEAD = 2, MORLEWEN_BEHI
 /* The same in words. `count` is one of the four above; `value` is by how many numbers (0 for a repeat, 1 for the next).
  * Never refused. */
 uint64_t morlewen_sequence(uint32_t old_number, uint32_t new_number);
+
+/* ---- The judge ----
+ * A second reader, for a message that was refused: it tries each of the seven rules of reading by itself, whatever the others
+ * find, and finds the CRC by plain division. It is slow, and it is not needed to read. */
+
+/* What became of a rule. Not judged, which counts as not broken: its bytes are not all there, or, of rule 6, the variable
+ * header's size is not 6 to 132. */
+enum { MORLEWEN_KEPT = 0, MORLEWEN_BROKEN = 1, MORLEWEN_NOT_JUDGED = 2 };
+
+/* How many rules there are. Rule N has the number N of the refusals of reading, and its verdict stands at N - 1. */
+enum { MORLEWEN_RULES = 7 };
+
+/* Judges any bytes. Every one of the seven verdicts is written, and it is never refused. `reading` is the lowest number of a
+ * broken rule, 0 where none is broken: that is the number with which morlewen_read answers these bytes.
+ * Rule 1 is always judged. 2 needs byte 0; 3 byte 4; 4 byte 16, which holds V; 5 bytes 5 to 7, which hold D, and 16; 6 bytes 21
+ * to 16 + V; 7 the four bytes from place 17 + V + D, wherever the bytes lent end, and it takes the CRC over all before them. */
+uint64_t morlewen_judge(const uint8_t *bytes, size_t length, uint8_t verdicts[MORLEWEN_RULES]);
 
 /* ---- Golden files ----
  * `file` is the whole file in memory. It is only ever read. Records count from 0. */
