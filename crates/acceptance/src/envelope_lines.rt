@@ -1,4 +1,4 @@
-// The commands about sums, messages, QoS, lateness and sequence: each is one call of the library, and its answer is told by the row's template.
+// The commands about sums, messages, the judge, QoS, lateness and sequence: each is one call of the library, and its answer is told by the row's template.
 // Rests on the crate `exports`.
 use crate::numbers::BEGUN;
 use crate::numbers::CHOICE;
@@ -24,6 +24,8 @@ use exports::qos::morlewen_qos_split;
 use exports::sums::morlewen_crc;
 use exports::timing::morlewen_lateness;
 use exports::timing::morlewen_sequence;
+use exports::verdicts::RULES;
+use exports::verdicts::morlewen_judge;
 
 // What a lent buffer holds in every byte before a call.
 const BLANK: u8 = 0xEE;
@@ -43,6 +45,7 @@ fn envelope_answer(code: u8, message: &[u8], numbers: &mut [u64; 16]) -> u64 {
         b'b' => read(message, numbers),
         b'c' => qos(numbers),
         b'd' => late(numbers),
+        b'g' => judged(message, numbers),
         _ => morlewen_sequence(four_at(numbers, 0), four_at(numbers, 1)),
     }
 }
@@ -88,6 +91,26 @@ fn read(message: &[u8], numbers: &mut [u64; 16]) -> u64 {
     put(numbers, 5, 9);
     put(numbers, 14, 9);
     morlewen_read(message, numbers)
+}
+
+fn judged(message: &[u8], numbers: &mut [u64; 16]) -> u64 {
+    let mut verdicts = [0u8; RULES];
+    let word = morlewen_judge(message, &mut verdicts);
+    put_four(
+        numbers,
+        verdict(&verdicts, 0),
+        verdict(&verdicts, 1),
+        verdict(&verdicts, 2),
+        verdict(&verdicts, 3),
+    );
+    put(numbers, 4, verdict(&verdicts, 4));
+    put(numbers, 5, verdict(&verdicts, 5));
+    put(numbers, 6, verdict(&verdicts, 6));
+    word
+}
+
+fn verdict(verdicts: &[u8; RULES], place: usize) -> u64 {
+    wide(verdicts[place % RULES])
 }
 
 struct Given {

@@ -1,3 +1,4 @@
 pub mod FeedLaws
 pub mod FitsLaws
 pub mod OnlyLaws
+pub mod VerdictLaws

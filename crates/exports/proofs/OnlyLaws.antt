@@ -10,6 +10,7 @@ use Rattle.golden.specs.Finding.{NameFields}
 use Rattle.exports.specs.Envelopes.{ReadsForC, WritesForC, RewritesForC, SplitsForC, JoinsForC, JudgesLatenessForC, JudgesSequenceForC}
 use Rattle.exports.specs.Feeds.{Lent, TakesForC, EndsForC, RestartsForC, HoldsForC}
 use Rattle.exports.specs.Goldens.{CountsForC, ChecksForC, FindsForC, EntersForC, StepsForC, ComparesForC, MakesForC}
+use Rattle.exports.specs.Verdicts.{JudgesForC}
 
 only-that : {A : Type 0} (x : A) → Only₁ (λ (r : A). r ≡ x)
 only-that x a b p q = p ∙ sym q
@@ -58,6 +59,9 @@ only-compares-for-c f n radio entry = only-those _ _
 
 pub only-makes-for-c : (m entry : List ℕ) → Only₂ (MakesForC m entry)
 only-makes-for-c m entry = only-those _ _
+
+pub only-judges-for-c : (bytes : List ℕ) → Only₂ (JudgesForC bytes)
+only-judges-for-c bytes = only-those _ _
 
 pub only-takes-for-c : (entry : Lent) (piece : List ℕ) → Only₂ (TakesForC entry piece)
 only-takes-for-c entry piece = only-those _ _

@@ -1,5 +1,6 @@
 pub mod Word
 pub mod Envelopes
 pub mod Goldens
+pub mod Verdicts
 pub mod Feeds
 pub mod Helpers

@@ -1,5 +1,5 @@
 // The public operations of the layers below, in numbers and slices, for programs in C and Rust (include/morlewen.h).
-// Rests on the crates `sum`, `envelope`, `golden` and `feed`, by their promises and the laws that they export.
+// Rests on the crates `sum`, `envelope`, `judge`, `golden` and `feed`, by their promises and the laws that they export.
 mod answers;
 pub mod envelopes;
 pub mod feeds;
@@ -7,3 +7,4 @@ pub mod goldens;
 pub mod qos;
 pub mod sums;
 pub mod timing;
+pub mod verdicts;

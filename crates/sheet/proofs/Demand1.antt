@@ -52,6 +52,7 @@ use Rattle.feed.proofs.OnlyLaws as feed
 use Rattle.exports.specs.Envelopes.{ReadsForC, WritesForC, RewritesForC, SplitsForC, JoinsForC, JudgesLatenessForC, JudgesSequenceForC}
 use Rattle.exports.specs.Feeds.{Lent, TakesForC, EndsForC, RestartsForC, HoldsForC}
 use Rattle.exports.specs.Goldens.{CountsForC, ChecksForC, FindsForC, EntersForC, StepsForC, ComparesForC, MakesForC}
+use Rattle.exports.specs.Verdicts.{JudgesForC}
 use Rattle.exports.specs.Word.{WordTellsItsSlots}
 use Rattle.exports.proofs.FitsLaws.{word-tells-its-slots}
 use Rattle.exports.proofs.OnlyLaws as exports
@@ -217,6 +218,9 @@ compare-for-c-has-one-outcome = exports.only-compares-for-c
 
 pub make-for-c-has-one-outcome : (m entry : List ℕ) → Only₂ (MakesForC m entry)
 make-for-c-has-one-outcome = exports.only-makes-for-c
+
+pub judge-for-c-has-one-outcome : (bytes : List ℕ) → Only₂ (JudgesForC bytes)
+judge-for-c-has-one-outcome = exports.only-judges-for-c
 
 pub feed-take-for-c-has-one-outcome : (entry : Lent) (piece : List ℕ) → Only₂ (TakesForC entry piece)
 feed-take-for-c-has-one-outcome = exports.only-takes-for-c

@@ -1,6 +1,6 @@
 -- The cases of K5, computed from the definitions. A sum is computed by the crate `sum`, and division finds it by its law.
 -- Beside them the answers for M as the code hands them out, of which the theorems of agreement then speak.
-use mathlib.Core.List.{[]}
+use mathlib.Core.List.{[], _∷_}
 use mathlib.Core.Path.{_≡_, refl, sym, _∙_}
 use lib.ListN.{take}
 use Rattle.sum.specs.Vectors.{digits}
@@ -10,6 +10,7 @@ use Rattle.envelope.specs.Flags.{badFlags}
 use Rattle.envelope.specs.Heading.{announced, badVariableSize}
 use Rattle.envelope.specs.IntegrityField.{badIntegrity}
 use Rattle.envelope.specs.Numbers.{threeAt, fourAt}
+use Rattle.envelope.specs.Reading.{reading}
 use Rattle.envelope.specs.Told.{told}
 use Rattle.envelope.specs.declared.reader.Reading.the-variants.{Accepted}
 use Rattle.judge.specs.Agreement.{Agree, readingNumber}
@@ -17,11 +18,14 @@ use Rattle.judge.specs.Rules.{leastRule, versionRule, flagsRule, variableSizeRu
 use Rattle.judge.specs.Told.{Judges}
 use Rattle.judge.specs.declared.judging.Judging.{Judging}
 use Rattle.judge.specs.declared.judging.Verdict.the-variants.{Kept, NotJudged}
+use Rattle.exports.specs.Envelopes.{ReadsForC}
+use Rattle.exports.specs.Verdicts.{JudgesForC}
+use Rattle.exports.specs.Word.{word, unword}
 use Rattle.sheet.specs.Cases.{M, C}
 use Rattle.sheet.specs.JudgeCases.{JudgedCases, CrcCases}
 use Rattle.sheet.proofs.Cases.{sum-of-C, starred}
 use Rattle.sheet.proofs.OneFeed.{envelopeM}
-use Rattle.sheet.proofs.SecondReader.{answers-agree, lowest-is-readings, divided-is-crc}
+use Rattle.sheet.proofs.SecondReader.{answers-agree, lowest-is-readings, judge-for-c-tells-reading, divided-is-crc}
 
 pub judged-cases : JudgedCases
 unfolding leastRule versionRule flagsRule variableSizeRule lengthRule addressesRule integrityRule badFlags badVariableSize announced threeAt fourAt badAddresses splitsUpTo splitsAt isAddress endsInItsOnlyZero badIntegrity
@@ -61,3 +65,15 @@ agree-on-M = answers-agree M (Accepted envelopeM) judgingM (sym (starred .a .0))
 
 pub lowest-of-M : 0 ≡ readingNumber (told (Accepted envelopeM))
 lowest-of-M = lowest-is-readings M (Accepted envelopeM) judgingM 0 (sym (starred .a .0)) judges-M refl
+
+-- of the single byte 03 the reader of the C interface tells 1, and so does its judge, in the slot for it
+reads-a-byte : ReadsForC (3 ∷ []) [] 1 []
+unfolding reading word
+reads-a-byte = (refl, refl)
+
+judges-a-byte : JudgesForC (3 ∷ []) 256 (1 ∷ 1 ∷ 2 ∷ 2 ∷ 2 ∷ 2 ∷ 2 ∷ [])
+unfolding leastRule versionRule flagsRule variableSizeRule lengthRule addressesRule integrityRule announced threeAt word
+judges-a-byte = (refl, refl)
+
+pub for-c-of-a-byte : unword 256 .reading ≡ unword 1 .number
+for-c-of-a-byte = judge-for-c-tells-reading (3 ∷ []) [] [] 1 256 _ reads-a-byte judges-a-byte

@@ -1,10 +1,12 @@
 -- K5: the two readers agree on every input, and the two ways to the sum on every list of bytes.
--- Of the definitions first, then of any answers that keep the promises of `read`, `judge` and `Judging::lowest`.
+-- Of the definitions first, then of any answers that keep the promises of `read`, `judge` and `Judging::lowest`, and of those of the C interface.
 use Rattle.judge.specs.Agreement.{ReadersAgree, AnswersAgree, LowestIsReadings, DividedIsCrc}
 use Rattle.judge.specs.Quotient.{IsDivision}
 use Rattle.judge.proofs.AgreementLaws as agreement
 use Rattle.judge.proofs.DivisionLaws as division
 use Rattle.judge.proofs.QuotientLaws as quotient
+use Rattle.exports.specs.Verdicts.{JudgeForCTellsReading}
+use Rattle.exports.proofs.VerdictLaws as exports
 
 pub readers-agree : ReadersAgree
 readers-agree = agreement.readers-agree
@@ -14,6 +16,9 @@ answers-agree = agreement.answers-agree
 
 pub lowest-is-readings : LowestIsReadings
 lowest-is-readings = agreement.lowest-is-readings
+
+pub judge-for-c-tells-reading : JudgeForCTellsReading
+judge-for-c-tells-reading = exports.judge-for-c-tells-reading
 
 -- ---- the division
 

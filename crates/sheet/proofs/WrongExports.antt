@@ -19,9 +19,11 @@ use Rattle.golden.specs.Making.{making, recordOf}
 use Rattle.golden.specs.Stepping.{stepAt, nextAfter}
 use Rattle.feed.specs.Feeding.{State, refused as refusedStand, Outcome as FeedOutcome, ending}
 use Rattle.feed.specs.Verdict.{tooLong}
+use Rattle.judge.specs.Rules.{leastRule, versionRule, addressesRule}
 use Rattle.exports.specs.Envelopes.{readSlots, fieldsAfter, ReadsForC, writeSlots, WritesForC, RewritesForC, qosFor, SplitsForC, JoinsForC, JudgesLatenessForC, JudgesSequenceForC}
 use Rattle.exports.specs.Feeds.{foundSlots, Lent, lent, lentAfter, TakesForC, EndsForC, RestartsForC, HoldsForC}
 use Rattle.exports.specs.Goldens.{CountsForC, checkSlots, ChecksForC, nameFor, FindsForC, EntersForC, StepsForC, ComparesForC, MakesForC}
+use Rattle.exports.specs.Verdicts.{JudgesForC}
 use Rattle.exports.specs.Word.{slots, word, sized}
 use Rattle.sheet.specs.Cases.{M}
 use Rattle.sheet.specs.FeedCases.{heldBy, announcing511}
@@ -173,6 +175,20 @@ make-for-c-tells-what-reading-said exit kept = apart 34 (34 + 256) tt (rw (starr
 -- 17 bytes that announce 511 are in, and 51 stands
 abbrev refusedFeed : State
 refusedFeed = heldBy (take 17 announcing511) (refusedStand tooLong)
+
+-- ---- the judge: the number of reading told as a refusal; a rule that was not judged told as kept; a broken one told as kept
+
+pub judge-for-c-is-no-refusal : (exit : List ℕ) → JudgesForC (3 ∷ []) 1 exit → ⊥
+unfolding leastRule word
+judge-for-c-is-no-refusal exit kept = apart 1 256 tt (kept .0)
+
+pub judge-for-c-tells-not-judged-from-kept : (r : ℕ) → JudgesForC M r (0 ∷ 0 ∷ 0 ∷ 0 ∷ 0 ∷ 0 ∷ 0 ∷ []) → ⊥
+unfolding addressesRule
+judge-for-c-tells-not-judged-from-kept r kept = apart 0 2 tt (ap (λ (s : List ℕ). getD s 5 0) (kept .1))
+
+pub judge-for-c-tells-what-is-broken : (r : ℕ) → JudgesForC (3 ∷ []) r (1 ∷ 0 ∷ 2 ∷ 2 ∷ 2 ∷ 2 ∷ 2 ∷ []) → ⊥
+unfolding versionRule
+judge-for-c-tells-what-is-broken r kept = apart 0 1 tt (ap (λ (s : List ℕ). getD s 1 0) (kept .1))
 
 -- ---- a feed's piece: half a message told as none used; a refusal that stands passed over; fields written where none is found
 

@@ -9,24 +9,20 @@ use Rattle.envelope.specs.Heading.{announced}
 use Rattle.envelope.specs.IntegrityField.{badIntegrity}
 use Rattle.envelope.specs.Numbers.{threeAt, fourAt}
 use Rattle.judge.specs.Division.{Divides}
-use Rattle.judge.specs.Rules.{RuleAnswer, kept, broken, notJudged, RuleAnswers, leastRule, versionRule, flagsRule, variableSizeRule, lengthRule, addressesRule, integrityRule, brokenRules}
+use Rattle.judge.specs.Rules.{RuleAnswer, RuleAnswers, leastRule, versionRule, flagsRule, variableSizeRule, lengthRule, addressesRule, integrityRule, brokenRules}
 use Rattle.judge.specs.Told.{toldVerdict, toldJudging, Judges, TellsLowest}
 use Rattle.judge.specs.declared.judging.Judging.{Judging}
 use Rattle.judge.specs.declared.judging.Verdict.{Verdict}
 use Rattle.judge.specs.declared.judging.Verdict.the-variants.{Kept, Broken, NotJudged}
+use Rattle.exports.specs.Verdicts.{verdictNumber}
 use Rattle.sheet.specs.Cases.{M}
 use Rattle.sheet.specs.JudgeCases.{withV133}
 use Rattle.sheet.proofs.Apart.{apart}
 use Rattle.sheet.proofs.JudgeCases.{crc-cases, judgingM}
 
--- an answer as a number, by which answers are told apart
-numberOf : RuleAnswer → ℕ
-numberOf kept = 0
-numberOf broken = 1
-numberOf notJudged = 2
-
-toldNumber : (a b : Verdict) (r : RuleAnswer) → a ≡ b → toldVerdict a ≡ r → numberOf (toldVerdict b) ≡ numberOf r
-toldNumber a b r wrong e = ap (λ (v : Verdict). numberOf (toldVerdict v)) (sym wrong) ∙ ap numberOf e
+-- answers are told apart by their numbers for C
+toldNumber : (a b : Verdict) (r : RuleAnswer) → a ≡ b → toldVerdict a ≡ r → verdictNumber (toldVerdict b) ≡ verdictNumber r
+toldNumber a b r wrong e = ap (λ (v : Verdict). verdictNumber (toldVerdict v)) (sym wrong) ∙ ap verdictNumber e
 
 -- ---- four wrong judges
 
@@ -37,31 +33,31 @@ a-judge-goes-on-after-a-broken-rule j wrong judges = apart 1 2 tt (ap length (sy
 
 -- one that judges rule 6 for V 133
 pub rule-6-is-not-for-V-133 : (j : Judging) → j .addresses ≡ Broken → Judges withV133 j → ⊥
-unfolding addressesRule numberOf
+unfolding addressesRule
 rule-6-is-not-for-V-133 j wrong judges = apart 1 2 tt (toldNumber (j .addresses) Broken _ wrong (ap (λ (a : RuleAnswers). a .addresses) judges))
 
 -- one whose rule 7 takes the last four bytes of what was lent: of M and a byte more
 pub rule-7-is-not-on-the-last-four-bytes : (j : Judging) → j .integrity ≡ Broken → Judges (M ++ (1 ∷ [])) j → ⊥
-unfolding integrityRule announced threeAt fourAt badIntegrity numberOf
+unfolding integrityRule announced threeAt fourAt badIntegrity
 rule-7-is-not-on-the-last-four-bytes j wrong judges = apart 1 0 tt (toldNumber (j .integrity) Broken _ wrong (ap (λ (a : RuleAnswers). a .integrity) judges))
 
 -- one that calls a rule broken whose bytes are missing: rule 5 without byte 16, rule 6 of M, which has no addresses
 pub missing-bytes-break-no-rule : (j : Judging) → j .length ≡ Broken → Judges (take 16 M) j → ⊥
-unfolding lengthRule numberOf
+unfolding lengthRule
 missing-bytes-break-no-rule j wrong judges = apart 1 2 tt (toldNumber (j .length) Broken _ wrong (ap (λ (a : RuleAnswers). a .length) judges))
 
 pub no-addresses-break-no-rule : (j : Judging) → j .addresses ≡ Broken → Judges M j → ⊥
-unfolding addressesRule numberOf
+unfolding addressesRule
 no-addresses-break-no-rule j wrong judges = apart 1 2 tt (toldNumber (j .addresses) Broken _ wrong (ap (λ (a : RuleAnswers). a .addresses) judges))
 
 -- ---- judge: every rule kept, whatever is lent; rule 7 judged only where rule 5 is kept
 
 pub judge-does-not-keep-all : (j : Judging) → j .version ≡ Kept → Judges (set M 0 3) j → ⊥
-unfolding versionRule numberOf
+unfolding versionRule
 judge-does-not-keep-all j wrong judges = apart 0 1 tt (toldNumber (j .version) Kept _ wrong (ap (λ (a : RuleAnswers). a .version) judges))
 
 pub judge-tries-7-where-5-is-broken : (j : Judging) → j .integrity ≡ NotJudged → Judges (set M 20 1 ++ (0 ∷ [])) j → ⊥
-unfolding integrityRule announced threeAt fourAt badIntegrity numberOf
+unfolding integrityRule announced threeAt fourAt badIntegrity
 judge-tries-7-where-5-is-broken j wrong judges = apart 2 1 tt (toldNumber (j .integrity) NotJudged _ wrong (ap (λ (a : RuleAnswers). a .integrity) judges))
 
 -- ---- lowest: the highest; a number where none is broken; a rule that was not judged
