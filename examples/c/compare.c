@@ -1,4 +1,4 @@
-/* judge GOLDEN RECORD RADIO: holds a radio's message against one record of a golden file.
+/* compare GOLDEN RECORD RADIO: holds a radio's message against one record of a golden file.
  * Exit status: 0 the same, 1 different or refused, 2 a bad argument or file. */
 #include <errno.h>
 #include <stdio.h>
@@ -17,12 +17,12 @@ static size_t contents(const char *name, uint8_t *buffer)
 {
     FILE *file = fopen(name, "rb");
     if (file == NULL) {
-        fprintf(stderr, "judge: %s: %s\n", name, strerror(errno));
+        fprintf(stderr, "compare: %s: %s\n", name, strerror(errno));
         exit(2);
     }
     size_t length = fread(buffer, 1, ROOM, file);
     if (ferror(file)) {
-        fprintf(stderr, "judge: %s cannot be read\n", name);
+        fprintf(stderr, "compare: %s cannot be read\n", name);
         exit(2);
     }
     fclose(file);
@@ -35,7 +35,7 @@ static size_t number(const char *word)
     char *end;
     unsigned long n = strtoul(word, &end, 10);
     if (end == word || *end != 0) {
-        fprintf(stderr, "judge: %s is no number\n", word);
+        fprintf(stderr, "compare: %s is no number\n", word);
         exit(2);
     }
     return n;
@@ -54,7 +54,7 @@ int main(int argc, char **argv)
     static uint8_t golden[ROOM], radio[ROOM];
     uint32_t places[PLACES] = {0};
     if (argc != 4) {
-        fprintf(stderr, "usage: judge GOLDEN RECORD RADIO\n");
+        fprintf(stderr, "usage: compare GOLDEN RECORD RADIO\n");
         return 2;
     }
     size_t golden_length = contents(argv[1], golden);
