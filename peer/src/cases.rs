@@ -1,6 +1,8 @@
 //! The worked examples of the rules, and sums that others have published.
 //! Each is built here byte by byte and carries the answer it must have.
 
+pub mod judged;
+
 /// A message and its answer: 0 where it is accepted, else the refusal's number.
 pub struct Case {
     pub name: &'static str,
@@ -20,6 +22,12 @@ pub fn published_sums() -> Vec<(Vec<u8>, u32)> {
         (vec![0xFF; 32], 0xFF6C_AB0B),
         ((0..32).collect(), 0x9126_7E8A),
     ]
+}
+
+/// The bytes that these hex digits write, whatever stands between them.
+pub fn from_hex(digits: &str) -> Vec<u8> {
+    let digits: Vec<u32> = digits.chars().filter_map(|digit| digit.to_digit(16)).collect();
+    digits.chunks(2).map(|pair| (pair[0] << 4 | pair[1]) as u8).collect()
 }
 
 /// The message M: type 6000, number 1, no integrity, 21 bytes.

@@ -1,6 +1,7 @@
 //! Bits that flip on a card: each bit of each message of a golden file, and each pair of bits of one message.
 //! Told are the files that come of it, as far as the flags still declare a CRC.
 
+use crate::cases::from_hex;
 use crate::envelope::Kind;
 use crate::golden::{PREFIX, RECORD};
 use std::ops::Range;
@@ -15,12 +16,7 @@ pub fn file() -> Vec<u8> {
         "04177001080000 02 00000001 00000000 00 0000 d9299f95",
         "04177001080000 05 ee6b2800 6553f100 13 012c 0008 75702e623a69746300 6373782e6200 68656c6c6f 0fbc61c7",
     ];
-    messages.iter().flat_map(|digits| record(&bytes(digits))).collect()
-}
-
-fn bytes(digits: &str) -> Vec<u8> {
-    let digits: Vec<u32> = digits.chars().filter_map(|digit| digit.to_digit(16)).collect();
-    digits.chunks(2).map(|pair| (pair[0] << 4 | pair[1]) as u8).collect()
+    messages.iter().flat_map(|digits| record(&from_hex(digits))).collect()
 }
 
 fn record(message: &[u8]) -> Vec<u8> {

@@ -1,4 +1,4 @@
-//! The peer: the rules for EMP envelopes, golden files and the feed, written a second time in plain Rust.
+//! The peer: the rules for EMP envelopes, golden files, the feed and the judge, written a second time in plain Rust.
 //! It shares no line with the proved library, so that the two can be run side by side.
 
 pub mod casefile;
@@ -9,4 +9,5 @@ pub mod envelope;
 pub mod feed;
 pub mod flips;
 pub mod golden;
+pub mod judge;
 pub mod random;
