@@ -12,6 +12,7 @@ pub struct Answer {
 
 pub const FIELDS: usize = 16;
 pub const QOS_PARTS: usize = 5;
+pub const RULES: usize = 7;
 pub const LINE: usize = 3;
 pub const PART: usize = 2;
 pub const FEED_ROOM: usize = 510;
@@ -72,6 +73,10 @@ pub const REPEAT: u16 = 0;
 pub const NEXT: u16 = 1;
 pub const AHEAD: u16 = 2;
 pub const BEHIND: u16 = 3;
+
+pub const KEPT: u8 = 0;
+pub const BROKEN: u8 = 1;
+pub const NOT_JUDGED: u8 = 2;
 
 /// Places in the numbers of a feed.
 pub mod feed_number {

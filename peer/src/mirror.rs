@@ -3,11 +3,13 @@
 
 use crate::interface::{feed_number, field, Answer, Order, Timing};
 use crate::interface::{AHEAD, BEHIND, FEED_INSIDE, FEED_WHOLE, IN_TIME, LATE, NEXT, NO_CLOCK, REPEAT};
-use crate::interface::{FEED_NUMBERS, FEED_ROOM, FIELDS, LINE, PART, QOS_PARTS};
+use crate::interface::{BROKEN, KEPT, NOT_JUDGED};
+use crate::interface::{FEED_NUMBERS, FEED_ROOM, FIELDS, LINE, PART, QOS_PARTS, RULES};
 use peer::crc::{Division, Sum};
 use peer::envelope::{self, Draft, Fields, Integrity, Kind, Lateness, Qos, Sequence, Service, Unread};
 use peer::feed::{self, Feed, Standing, Taken};
 use peer::golden::{self, Refusal, Step};
+use peer::judge::{self, Verdict};
 
 fn refused(number: u8) -> Answer {
     Answer { number, ..Answer::default() }
@@ -124,6 +126,20 @@ pub fn sequence(old: u32, new: u32) -> Answer {
         Sequence::Behind(by) => (BEHIND, by),
     };
     Answer { count, value, ..Answer::default() }
+}
+
+pub fn judge(bytes: &[u8], verdicts: &mut [u8; RULES]) -> Answer {
+    let judged = judge::judge(bytes);
+    *verdicts = judged.map(verdict_number);
+    Answer { reading: judge::lowest_broken(&judged).unwrap_or(0), ..Answer::default() }
+}
+
+pub fn verdict_number(verdict: Verdict) -> u8 {
+    match verdict {
+        Verdict::Kept => KEPT,
+        Verdict::Broken => BROKEN,
+        Verdict::NotJudged => NOT_JUDGED,
+    }
 }
 
 pub fn records(file: &[u8]) -> Answer {

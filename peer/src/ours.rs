@@ -1,7 +1,7 @@
 //! The proved library through its C archive: one declaration and one safe function for each symbol.
 //! Slices go in with their lengths, so what the C header asks of a caller always holds.
 
-use crate::interface::{Answer, Order, Timing, FEED_NUMBERS, FEED_ROOM, FIELDS, LINE, PART, QOS_PARTS};
+use crate::interface::{Answer, Order, Timing, FEED_NUMBERS, FEED_ROOM, FIELDS, LINE, PART, QOS_PARTS, RULES};
 
 extern "C" {
     fn morlewen_crc(bytes: *const u8, length: usize) -> u32;
@@ -31,6 +31,7 @@ extern "C" {
     fn morlewen_lateness(flags: u8, time: u32, addressed: u8, ttl: u16, clock: u64) -> u8;
     fn morlewen_distance(old: u32, new: u32) -> i32;
     fn morlewen_sequence(old: u32, new: u32) -> u64;
+    fn morlewen_judge(bytes: *const u8, length: usize, verdicts: *mut u8) -> u64;
     fn morlewen_records(file: *const u8, length: usize) -> u64;
     fn morlewen_check(file: *const u8, length: usize) -> u64;
     fn morlewen_find(file: *const u8, length: usize, message_type: u16, number: u32) -> u64;
@@ -121,6 +122,11 @@ pub fn distance(old: u32, new: u32) -> i32 {
 pub fn sequence(old: u32, new: u32) -> Answer {
     // SAFETY: numbers only.
     unpack(unsafe { morlewen_sequence(old, new) })
+}
+
+pub fn judge(bytes: &[u8], verdicts: &mut [u8; RULES]) -> Answer {
+    // SAFETY: the slice is whole, and the array has a place for each rule.
+    unpack(unsafe { morlewen_judge(bytes.as_ptr(), bytes.len(), verdicts.as_mut_ptr()) })
 }
 
 pub fn records(file: &[u8]) -> Answer {

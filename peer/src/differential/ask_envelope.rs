@@ -2,10 +2,10 @@
 //! Beside each answer, what must hold between answers.
 
 use super::ask_golden::find;
-use super::inputs;
 use super::lent::{array, hex};
 use super::run::Run;
 use super::tally::{Operation, Outcome};
+use super::{ask_judge, inputs};
 use crate::interface::{field, Answer, Order, Timing, FIELDS, QOS_PARTS};
 use crate::interface::{IN_TIME, LATE};
 use crate::{mirror, ours};
@@ -28,6 +28,7 @@ pub fn message(run: &mut Run, message: &[u8]) -> Answer {
     let before = message.to_vec();
     sum(run, message);
     let (answer, fields) = read(run, message);
+    ask_judge::beside_reading(run, message, answer);
     rewritten(run, message, answer);
     made(run, message, answer);
     if answer.number == 0 {
@@ -38,7 +39,7 @@ pub fn message(run: &mut Run, message: &[u8]) -> Answer {
     answer
 }
 
-fn read(run: &mut Run, message: &[u8]) -> (Answer, [u64; FIELDS]) {
+pub fn read(run: &mut Run, message: &[u8]) -> (Answer, [u64; FIELDS]) {
     let (answer, fields) = run.beside(
         Operation::Read,
         FIELDS,

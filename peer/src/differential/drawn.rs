@@ -4,7 +4,7 @@
 use super::ask_feed::{self, Feeds};
 use super::lent::hex;
 use super::run::Run;
-use super::{ask_envelope, ask_golden, feed_inputs, inputs};
+use super::{ask_envelope, ask_golden, ask_judge, feed_inputs, inputs, judge_inputs};
 use crate::interface::Timing;
 use peer::crc::Division;
 use peer::envelope::{COMMON, FIELD, SHORTEST};
@@ -18,12 +18,13 @@ pub struct Family {
 }
 
 /// The quick ones first, so that each operation is met early.
-pub const FAMILIES: [Family; 14] = [
+pub const FAMILIES: [Family; 15] = [
     Family { name: "lateness", weight: 50, one: lateness },
     Family { name: "sequence", weight: 50, one: sequence },
     Family { name: "QoS joins", weight: 40, one: qos_join },
     Family { name: "feeds of any content", weight: 60, one: any_feed },
     Family { name: "streams cut at random", weight: 8, one: stream },
+    Family { name: "messages judged with several faults", weight: 150, one: judged },
     Family { name: "spoiled orders", weight: 90, one: spoiled_order },
     Family { name: "comparisons", weight: 90, one: comparison },
     Family { name: "golden files of 0 to 8 records", weight: 60, one: short_file },
@@ -185,4 +186,9 @@ fn any_feed(run: &mut Run) {
             }
         }
     }
+}
+
+fn judged(run: &mut Run) {
+    let message = judge_inputs::faulty(&mut run.random);
+    ask_judge::message(run, &message);
 }

@@ -144,7 +144,7 @@ fn damage(random: &mut Random, message: &mut Vec<u8>) {
     }
 }
 
-fn near(random: &mut Random, byte: u8) -> u8 {
+pub fn near(random: &mut Random, byte: u8) -> u8 {
     let by = random.between(1, 3) as u8;
     if random.once_in(2) {
         byte.wrapping_add(by)

@@ -4,11 +4,14 @@
 mod ask_envelope;
 mod ask_feed;
 mod ask_golden;
+mod ask_judge;
 mod drawn;
 mod feed_inputs;
 mod fixed;
 mod fixed_feed;
+mod fixed_judge;
 mod inputs;
+mod judge_inputs;
 mod lent;
 mod run;
 mod tally;
@@ -47,6 +50,7 @@ pub fn command(words: &[String]) -> Option<ExitCode> {
     let mut run = Run::new(options.seed);
     fixed::short(&mut run);
     fixed_feed::short(&mut run);
+    fixed_judge::short(&mut run);
     drawn(&mut run, options.count);
     fixed::long(&mut run);
     println!("answers, with how often each came:");

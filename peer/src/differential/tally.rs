@@ -1,7 +1,7 @@
 //! How often each operation gave each answer, and which answers a full run must have seen.
 //! 32 is left out: no accepted message is a proper beginning of another.
 
-use crate::interface::{Answer, AHEAD, BEHIND, NEXT, REPEAT};
+use crate::interface::{Answer, AHEAD, BEHIND, BROKEN, KEPT, NEXT, NOT_JUDGED, REPEAT, RULES};
 use std::collections::BTreeMap;
 use std::fmt;
 
@@ -16,6 +16,7 @@ pub enum Operation {
     Lateness,
     Distance,
     Sequence,
+    Judge,
     Records,
     Check,
     Find,
@@ -34,6 +35,10 @@ pub enum Outcome {
     Done(&'static str),
     Refused(u8),
     Unread(u8, u8),
+    /// The judge's lowest broken rule.
+    Lowest(u8),
+    /// What became of a rule, as the number of its verdict.
+    Verdict(u8, u8),
 }
 
 impl fmt::Display for Outcome {
@@ -42,16 +47,21 @@ impl fmt::Display for Outcome {
             Outcome::Done(word) => write!(out, "{word}"),
             Outcome::Refused(number) => write!(out, "{number}"),
             Outcome::Unread(number, reading) => write!(out, "{number}/{reading}"),
+            Outcome::Lowest(rule) => write!(out, "lowest {rule}"),
+            Outcome::Verdict(rule, KEPT) => write!(out, "{rule} kept"),
+            Outcome::Verdict(rule, BROKEN) => write!(out, "{rule} broken"),
+            Outcome::Verdict(rule, _) => write!(out, "{rule} not judged"),
         }
     }
 }
 
 impl Outcome {
     pub fn of(operation: Operation, answer: Answer) -> Outcome {
-        match (answer.number, answer.reading) {
-            (0, _) => Outcome::Done(word(operation, answer)),
-            (number, 0) => Outcome::Refused(number),
-            (number, reading) => Outcome::Unread(number, reading),
+        match (operation, answer.number, answer.reading) {
+            (Operation::Judge, 0, rule @ 1..) => Outcome::Lowest(rule),
+            (_, 0, _) => Outcome::Done(word(operation, answer)),
+            (_, number, 0) => Outcome::Refused(number),
+            (_, number, reading) => Outcome::Unread(number, reading),
         }
     }
 }
@@ -69,6 +79,7 @@ fn word(operation: Operation, answer: Answer) -> &'static str {
         (Operation::Sequence, _, NEXT) => "next",
         (Operation::Sequence, _, AHEAD) => "ahead",
         (Operation::Sequence, _, BEHIND) => "behind",
+        (Operation::Judge, ..) => "none broken",
         _ => "done",
     }
 }
@@ -101,10 +112,10 @@ impl Tally {
 }
 
 fn required() -> Vec<(Operation, Outcome)> {
-    use Operation::{Check, Compare, Crc, Distance, Find, Lateness, Line, Make};
+    use Operation::{Check, Compare, Crc, Distance, Find, Judge, Lateness, Line, Make};
     use Operation::{FeedEnd, FeedMessage, FeedRestart, FeedTake};
     use Operation::{QosJoin, QosSplit, Read, Records, Rewrite, Sequence, Step, Write};
-    let table: [(Operation, &[&'static str], &[u8]); 20] = [
+    let table: [(Operation, &[&'static str], &[u8]); 21] = [
         (Crc, &["done"], &[]),
         (Read, &["done"], &[1, 2, 3, 4, 5, 6, 7]),
         (Write, &["done"], &[11, 12, 13, 14, 15]),
@@ -114,6 +125,7 @@ fn required() -> Vec<(Operation, Outcome)> {
         (Lateness, &["in time", "late", "no clock"], &[]),
         (Distance, &["done"], &[]),
         (Sequence, &["repeat", "next", "ahead", "behind"], &[]),
+        (Judge, &["none broken"], &[]),
         (Records, &["done"], &[21]),
         (Check, &["done"], &[21, 23, 24, 25]),
         (Find, &["done"], &[21, 23, 24, 25, 27]),
@@ -126,7 +138,7 @@ fn required() -> Vec<(Operation, Outcome)> {
         (FeedRestart, &["done"], &[]),
         (FeedMessage, &["nothing", "message"], &[]),
     ];
-    let mut required = Vec::new();
+    let mut required: Vec<_> = judged().into_iter().map(|outcome| (Judge, outcome)).collect();
     for (operation, words, numbers) in table {
         required.extend(words.iter().map(|word| (operation, Outcome::Done(word))));
         required.extend(numbers.iter().flat_map(|&number| refusals(number)).map(|outcome| (operation, outcome)));
@@ -141,4 +153,16 @@ fn refusals(number: u8) -> Vec<Outcome> {
         31 | 34 => (1..=7).map(|reading| Outcome::Unread(number, reading)).collect(),
         _ => vec![Outcome::Refused(number)],
     }
+}
+
+/// Each rule as the lowest broken one, and each verdict on it; rule 1 is always judged.
+fn judged() -> Vec<Outcome> {
+    let mut outcomes = Vec::new();
+    for rule in 1..=RULES as u8 {
+        outcomes.extend([Outcome::Lowest(rule), Outcome::Verdict(rule, KEPT), Outcome::Verdict(rule, BROKEN)]);
+        if rule != 1 {
+            outcomes.push(Outcome::Verdict(rule, NOT_JUDGED));
+        }
+    }
+    outcomes
 }
