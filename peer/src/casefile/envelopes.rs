@@ -6,6 +6,7 @@ use super::printed::{buffer, part};
 use super::words::Words;
 use crate::crc::{Division, Sum};
 use crate::envelope::{self, Draft, Fields, Integrity, Lateness, Qos, Sequence, Service};
+use crate::judge::{self, Verdict};
 
 type Answer = Result<String, Complaint>;
 
@@ -51,6 +52,21 @@ pub fn accepted(fields: &Fields, message: &[u8]) -> String {
     };
     let numbers = format!("type {message_type} version {message_version} flags {flags} number {number} time {time}");
     format!("accepted {numbers} {addressing} body {body} integrity {integrity}")
+}
+
+pub fn judge(words: &mut Words) -> Answer {
+    let judged = judge::judge(&bytes(words, MOST_BYTES, None)?);
+    let mut told = String::new();
+    for (rule, verdict) in (1..).zip(judged) {
+        let word = match verdict {
+            Verdict::Kept => "kept",
+            Verdict::Broken => "broken",
+            Verdict::NotJudged => "not judged",
+        };
+        told += &format!("{rule} {word} ");
+    }
+    let lowest = judge::lowest_broken(&judged);
+    Ok(told + &lowest.map_or("none broken".to_string(), |rule| format!("lowest {rule}")))
 }
 
 /// The buffer that `room N` asks for.

@@ -32,9 +32,10 @@ struct Worked {
 
 type Command = fn(&mut Words, &mut Worked) -> Result<String, Complaint>;
 
-const COMMANDS: [(&str, Command); 22] = [
+const COMMANDS: [(&str, Command); 23] = [
     ("sum", |words, _| envelopes::sum(words)),
     ("read", |words, _| envelopes::read(words)),
+    ("judge", |words, _| envelopes::judge(words)),
     ("write", |words, _| envelopes::write(words)),
     ("rewrite", |words, _| envelopes::rewrite(words)),
     ("qos", |words, _| envelopes::qos(words)),

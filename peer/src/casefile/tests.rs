@@ -115,6 +115,32 @@ fn other_envelope_commands_answer_as_told() {
     ]);
 }
 
+#[test]
+fn each_rule_is_told_with_its_verdict() {
+    let kept = "1 kept 2 kept 3 kept 4 kept 5 kept";
+    let rest = "2 not judged 3 not judged 4 not judged 5 not judged 6 not judged 7 not judged";
+    each(&[
+        (&format!("judge M: {M}"), &format!("judge M: {kept} 6 not judged 7 kept none broken")),
+        ("judge nothing:", &format!("judge nothing: 1 broken {rest} lowest 1")),
+        (
+            "judge six kept: 041770010000000000000001 00*4 06 00*6 00000000",
+            &format!("judge six kept: {kept} 6 kept 7 kept none broken"),
+        ),
+        (
+            "judge V 5: 041770010000000000000001 00*4 05 00*4",
+            "judge V 5: 1 kept 2 kept 3 kept 4 broken 5 broken 6 not judged 7 not judged lowest 4",
+        ),
+        (
+            "judge most of them: 031770012000000000000001 00*4 07 00*4 414100 00000001 00",
+            "judge most of them: 1 kept 2 broken 3 broken 4 kept 5 broken 6 broken 7 broken lowest 2",
+        ),
+        ("judge 7: 041770010000000000000001 00*8 01", &format!("judge 7: {kept} 6 not judged 7 broken lowest 7")),
+        ("judge", "line 7, column 6: a name and a colon expected"),
+        ("judge b: 00 0", "line 8, column 13: bytes expected"),
+        ("judge b: 00*300001", "line 9, column 10: at most 300000 bytes expected"),
+    ]);
+}
+
 const M: &str = "041770010000000000000001 00*9";
 
 #[test]
