@@ -19,7 +19,7 @@ pub fn sums(random: &mut Random) -> Vec<String> {
         format!("sum nine letters: '{}'", String::from_utf8_lossy(&word)),
         format!("sum {size} bytes at random: {}", spelled(random, &bytes)),
     ];
-    lines.extend(some(random, 3, others));
+    lines.extend(some(random, 2, others));
     lines
 }
 
@@ -100,7 +100,7 @@ pub fn good_writes(random: &mut Random) -> Vec<String> {
 }
 
 pub fn bad_writes(random: &mut Random) -> Vec<String> {
-    let spoilers: [(&str, fn(&mut Random, &mut Sketch)); 6] = [
+    let spoilers: [(&str, fn(&mut Random, &mut Sketch)); 5] = [
         ("unassigned flags", |random, sketch| sketch.flags |= random.pick(&[0x18, 0x20, 0x40, 0x80])),
         ("an address over 63 bytes", |random, sketch| sketch.source = vec![b'L'; random.between(64, 70)]),
         ("an address with a zero", |random, sketch| {
@@ -111,7 +111,6 @@ pub fn bad_writes(random: &mut Random) -> Vec<String> {
             (sketch.service, sketch.source) = (None, letters(random, 3));
         }),
         ("a stray integrity number", |random, sketch| sketch.integrity = random.between(1, 99) as u32),
-        ("nothing wrong", |_, _| {}),
     ];
     let mut lines = Vec::new();
     for (name, spoil) in spoilers {
@@ -120,24 +119,26 @@ pub fn bad_writes(random: &mut Random) -> Vec<String> {
         spoil(random, &mut sketch);
         let room = sketch.length() - random.between(1, sketch.length());
         // Too short a buffer is looked for last, so it may come with any of the others.
-        if name == "nothing wrong" || random.once_in(4) {
+        if random.once_in(4) {
             lines.push(write_line(random, &format!("{name}, too little room"), &sketch, room));
         } else {
             lines.push(write_line(random, name, &sketch, 600));
         }
     }
     let sketch = Sketch::any(random);
-    lines.push(write_line(random, "one byte too little room", &sketch, sketch.length() - 1));
+    let any = random.between(1, sketch.length());
+    let less = random.pick(&[1, any]);
+    lines.push(write_line(random, &format!("too little room by {less}"), &sketch, sketch.length() - less));
     lines
 }
 
 pub fn rewrites(random: &mut Random) -> Vec<String> {
+    let (name, more) = random.pick(&[("just enough room", 0), ("room to spare", 17)]);
     let mut line = |name: &str, more: usize, less: usize| {
         let message = Sketch::any(random).message();
         format!("rewrite {name}: room {} of {}", message.len() + more - less, spelled(random, &message))
     };
-    let mut lines =
-        vec![line("just enough room", 0, 0), line("room to spare", 17, 0), line("one byte too little room", 0, 1)];
+    let mut lines = vec![line(name, more, 0), line("one byte too little room", 0, 1)];
     let damage = random.pick(&DAMAGES);
     let message = damaged(random, damage);
     lines.push(format!("rewrite {}: room {} of {}", damage.name(), random.up_to(80), spelled(random, &message)));

@@ -176,17 +176,21 @@ pub fn long_file(random: &mut Random) -> Scene {
 
 pub fn empty_file(random: &mut Random) -> Scene {
     let sketch = Sketch::any(random);
-    vec![
+    let mut scene = vec![
         "file new".to_string(),
         "check an empty file:".to_string(),
         format!("find in an empty file: {}", sought(&sketch)),
-        format!("step in an empty file: at {}", random.up_to(2)),
         "walk an empty file:".to_string(),
-        "entry in an empty file: at 0".to_string(),
         "list an empty file:".to_string(),
-        format!("compare in an empty file: record 0 list 4 with {}", spelled(random, &sketch.message())),
         "edits in an empty file: record 0".to_string(),
-    ]
+    ];
+    let others = vec![
+        format!("step in an empty file: at {}", random.up_to(2)),
+        "entry in an empty file: at 0".to_string(),
+        format!("compare in an empty file: record 0 list 4 with {}", spelled(random, &sketch.message())),
+    ];
+    scene.extend(some(random, 2, others));
+    scene
 }
 
 /// A record that is damaged in its place and mended again.

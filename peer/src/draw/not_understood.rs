@@ -12,7 +12,7 @@ pub fn comments(random: &mut Random) -> Vec<String> {
 
 pub fn commands_and_names(random: &mut Random) -> Vec<String> {
     let spaces = " ".repeat(random.up_to(3));
-    let command = random.pick(&["sum", "read", "walk", "check", "list"]);
+    let command = random.pick(&["sum", "read", "judge", "walk", "check", "list"]);
     vec![
         format!("{spaces}{} no such command: 00", random.pick(&["reed", "Sum", "checks", "wal", "files", "0"])),
         format!("{spaces}{command} a name without its colon"),
@@ -34,7 +34,7 @@ pub fn words(random: &mut Random) -> Vec<String> {
         format!("compare no message: record 0 list {number} 2*{}{spaces}", random.up_to(20)),
         format!("sequence no second number: from {number} {other} {number}"),
     ];
-    lines.extend(some(random, 2, others));
+    lines.extend(some(random, 1, others));
     lines
 }
 
@@ -66,7 +66,7 @@ pub fn numbers(random: &mut Random) -> Vec<String> {
         format!("file change {} 00", 66_561 + over),
         format!("compare a bad list: record 0 list 1 {list} with 00"),
     ];
-    lines.extend(some(random, 5, others));
+    lines.extend(some(random, 4, others));
     lines
 }
 
@@ -75,7 +75,7 @@ pub fn bytes(random: &mut Random) -> Vec<String> {
     let over = random.between(1, 9);
     let fields = "type 1 version 1 flags 0 number 1 time 1 unaddressed";
     let long = format!("source 41*{} destination body integrity 0 room 0", 600 + over);
-    let (one, other) = (random.pick(&["sum", "piece"]), random.pick(&["sum", "piece"]));
+    let (one, other) = (random.pick(&["sum", "judge", "piece"]), random.pick(&["sum", "judge", "piece"]));
     let mut lines = vec![
         format!("{one} not bytes: 00 {word} 00"),
         format!("{other} over 300,000 bytes: 00*300000 '' 41*{over} 00"),
@@ -88,7 +88,7 @@ pub fn bytes(random: &mut Random) -> Vec<String> {
         format!("file record 04 00*{}", 509 + over),
         format!("file change 0 00*{}", 66_560 + over),
     ];
-    lines.extend(some(random, 3, others));
+    lines.extend(some(random, 2, others));
     lines
 }
 
@@ -101,7 +101,7 @@ pub fn left_over(random: &mut Random) -> Vec<String> {
         format!("file new {word}"),
         format!("flips two records: record 0 {word}"),
     ];
-    lines.extend(some(random, 2, others));
+    lines.extend(some(random, 1, others));
     lines
 }
 
