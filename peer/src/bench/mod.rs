@@ -2,6 +2,7 @@
 //! Only ratios are told, since bare times say more about the machine than about the code.
 
 mod feeds;
+mod judges;
 mod works;
 
 use crate::loaded::Before;
@@ -51,6 +52,8 @@ const COLUMNS: [Column; 4] =
 /// Those that are there where the library before a change is given.
 const COLUMNS_BEFORE: [Column; 2] = [(Side::Ours, Side::Before), (Side::Before, Side::Table)];
 const FEED_COLUMNS: [Column; 2] = [(Side::Ours, Side::Table), (Side::Ours, Side::OurReading)];
+/// The judge finds its CRC by division on both sides; the reading beside it does not.
+const JUDGE_COLUMNS: [Column; 2] = [(Side::Ours, Side::Division), (Side::Ours, Side::OurReading)];
 
 /// One line of the table: the same work by each side that can do it.
 struct Row<'a> {
@@ -64,6 +67,8 @@ pub fn command() -> ExitCode {
     calls();
     println!();
     feeding();
+    println!();
+    judging();
     println!();
     println!("Below 1, the first named is quicker. Median of {ROUNDS} rounds; in each round the sides take turns.");
     ExitCode::SUCCESS
@@ -108,6 +113,17 @@ fn feeding() {
             }
         }
     }
+}
+
+/// A message judged, and the same message read.
+fn judging() {
+    head(&JUDGE_COLUMNS);
+    for (flags, kind) in KINDS {
+        for length in [21, 153, LONGEST_MESSAGE] {
+            judges::judging(kind, &works::message(flags, length, 1)).measure(&JUDGE_COLUMNS);
+        }
+    }
+    judges::judging("CRC", &works::message(8, 65_536, 1)).measure(&JUDGE_COLUMNS);
 }
 
 impl Row<'_> {
