@@ -69,7 +69,7 @@ fn by_length(length: usize, whole: usize, v: u8) -> [u8; RULES] {
     ]
 }
 
-/// Every V with several D, over bytes that mean nothing, at and beside the lengths that a rule asks for.
+/// Every V with several D and any flags, at and beside each length from which a rule is judged or kept.
 fn every_size(run: &mut Run) {
     run.family("every V judged at its edges");
     for v in 0..=u8::MAX {

@@ -5,12 +5,12 @@ use peer::crc::{Division, Sum};
 use peer::envelope::{COMMON, FIELD, SERVICE};
 use peer::random::Random;
 
-/// Where the flags stand, and the lowest byte of D, and V.
+// Where the flags stand, the lowest byte of D, and V.
 const FLAGS: usize = 4;
 const LOW_D: usize = 7;
 const V: usize = 16;
 
-/// A message with none to four faults, its field mended every other time, and then cut short or lengthened as often.
+/// A message with up to four faults, its field mended every other time; then cut short, lengthened, or neither.
 pub fn faulty(random: &mut Random) -> Vec<u8> {
     let longest = random.pick(&[21, 27, 60, 160, 300]);
     let mut message = inputs::message(random, longest);
@@ -57,7 +57,7 @@ fn zero_or_letter(random: &mut Random, message: &mut [u8]) {
 }
 
 /// Where the integrity field begins by V and D, in a message that holds both.
-pub fn field_place(message: &[u8]) -> usize {
+fn field_place(message: &[u8]) -> usize {
     let d = u32::from_be_bytes([0, message[LOW_D - 2], message[LOW_D - 1], message[LOW_D]]);
     COMMON + usize::from(message[V]) + d as usize
 }
