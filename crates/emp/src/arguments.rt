@@ -14,6 +14,7 @@ pub enum Command {
     Find,
     Compare,
     Read,
+    Judge,
     Sum,
     Make,
     // Standard input, alone or beside a golden file.
@@ -109,6 +110,9 @@ fn command_of(word: &[u8]) -> Command {
 fn message_command_of(word: &[u8]) -> Command {
     if alike(word, b"read") {
         return Command::Read;
+    }
+    if alike(word, b"judge") {
+        return Command::Judge;
     }
     if alike(word, b"sum") {
         return Command::Sum;

@@ -1,5 +1,5 @@
 // The operator's tool: what a golden file, a message or any other file holds, in plain words. Files are only read.
-// Rests on the crates `sum`, `envelope`, `golden` and `feed`, which decide every answer; here it is only told.
+// Rests on the crates `sum`, `envelope`, `judge`, `golden` and `feed`, which decide every answer; here it is only told.
 mod arguments;
 mod arrival;
 mod checking;
@@ -8,6 +8,7 @@ mod decimal;
 mod files;
 mod finding;
 mod help;
+mod judging;
 mod layout;
 mod line;
 mod listing;
@@ -61,6 +62,7 @@ fn on_file(command: Command) -> Status {
 fn most_for(command: Command) -> usize {
     match command {
         Command::Read => MOST,
+        Command::Judge => MOST,
         Command::Sum => MOST,
         Command::Make => MOST,
         _ => ROOM,
@@ -75,6 +77,7 @@ fn answer(command: Command, file: &[u8]) -> Status {
         Command::Find => finding::find_record(file),
         Command::Compare => comparing::compare_record(file),
         Command::Read => reading::read_message(file),
+        Command::Judge => judging::judge_message(file),
         Command::Sum => summing::sum_file(file),
         Command::Make => making::make_record(file),
         Command::WatchBeside => watching::watch_beside(file),

@@ -50,6 +50,55 @@ pub fn counted(n: usize, singular: &[u8]) {
     }
 }
 
+// Words with marks in them, each for the next of the numbers: `#` in digits, `%` the same but none for 0, `@` as a count of bytes,
+// `&` as a byte in hex, `$` as four.
+pub fn fill_in(words: &[u8], numbers: &[u64]) {
+    let mut next = 0;
+    let mut i = 0;
+    while i < words.len() {
+        next = fill_byte(words[i], numbers, next);
+        i += 1;
+    }
+}
+
+// Answers which number is the next one then.
+fn fill_byte(byte: u8, numbers: &[u64], next: usize) -> usize {
+    if next < numbers.len() {
+        if fill_mark(byte, numbers[next]) {
+            return next + 1;
+        }
+    }
+    text(&[byte]);
+    next
+}
+
+// Answers whether it is a mark.
+fn fill_mark(byte: u8, n: u64) -> bool {
+    match byte {
+        b'#' => number(n),
+        b'%' => number_or_none(n),
+        b'@' => bytes(n as usize),
+        b'&' => {
+            io::print_hex(STDOUT_FILENO, n, 2);
+        }
+        b'$' => {
+            io::print_hex(STDOUT_FILENO, n, 8);
+        }
+        _ => {
+            return false;
+        }
+    }
+    true
+}
+
+fn number_or_none(n: u64) {
+    if n == 0 {
+        text(b"none");
+        return;
+    }
+    number(n);
+}
+
 // Ends the last line of an answer. Earlier writes are not tested: where one of them failed, this one fails too.
 pub fn end_answer(status: Status) -> Status {
     put(b"\n", status)

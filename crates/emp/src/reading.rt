@@ -31,8 +31,7 @@ const SHOWN: usize = ROWS as usize * ROW as usize;
 pub fn read_message(message: &[u8]) -> Status {
     match read(message) {
         Reading::Accepted(accepted) => {
-            text(b"accepted, ");
-            bytes(message.len());
+            show_accepted(message.len());
             show_fields(accepted, message);
             end_answer(Status::Done)
         }
@@ -41,6 +40,11 @@ pub fn read_message(message: &[u8]) -> Status {
             end_answer(Status::Refused)
         }
     }
+}
+
+pub fn show_accepted(size: usize) {
+    text(b"accepted, ");
+    bytes(size);
 }
 
 fn show_fields(accepted: Envelope, message: &[u8]) {

@@ -110,6 +110,7 @@ pub fn form(to: i32, command: Command) {
         Command::Find => say(to, b"emp find GOLDEN TYPE NUMBER"),
         Command::Compare => say(to, b"emp compare GOLDEN RECORD RADIO"),
         Command::Read => say(to, b"emp read MESSAGE"),
+        Command::Judge => say(to, b"emp judge MESSAGE"),
         Command::Sum => say(to, b"emp sum FILE"),
         Command::Make => say(to, b"emp make MESSAGE"),
         Command::Help => say(to, b"emp help"),
