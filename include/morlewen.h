@@ -173,8 +173,8 @@ enum { MORLEWEN_RULES = 7 };
 /* Judges any bytes. Every one of the seven verdicts is written, and it is never refused. `reading` is the lowest number of a
  * broken rule, 0 where none is broken: that is the number with which morlewen_read answers these bytes.
  * Rule 1 is always judged. 2 needs byte 0; 3 byte 4; 4 byte 16, which holds V; 5 bytes 5 to 7, which hold D, and 16; 6 bytes 21
- * to 16 + V; 7 the four bytes from place 17 + V + D, wherever the bytes lent end, and it takes the CRC over all before them. Its
- * kind is that of the two bits alone, whatever other rules are broken; of kinds 2 and 3 it asks nothing, and is kept. */
+ * to 16 + V; 7 the four bytes from place 17 + V + D, wherever the bytes lent end, and it takes the CRC over all before them. The
+ * kind is bits 3 and 4 of the flags, whatever other rules are broken; of kinds 2 and 3 rule 7 asks nothing, and is kept. */
 uint64_t morlewen_judge(const uint8_t *bytes, size_t length, uint8_t verdicts[MORLEWEN_RULES]);
 
 /* ---- Golden files ----

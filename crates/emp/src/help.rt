@@ -17,7 +17,7 @@ emp find GOLDEN TYPE NUMBER      the first record of that type and number, and h
 emp compare GOLDEN RECORD RADIO  a record beside the radio's message: same, or where the two differ
 emp read MESSAGE                 every field of a message, or its refusal
 emp judge MESSAGE                every rule of reading by itself: kept, broken or not judged, with the numbers found;
-                                 then the first reader's verdict, as emp read has it
+                                 then what the first reader says, as emp read does
 emp sum FILE                     the CRC of all bytes of a file
 emp make MESSAGE                 the record of 512 bytes that holds a message, to standard output
 emp watch [GOLDEN]               every message of standard input the moment its last byte is in, and the record

@@ -20,6 +20,9 @@ use judge::judge;
 // The smallest variable header: TTL, QoS and two closing zeros.
 const LEAST_VARIABLE: usize = 6;
 
+// The kind whose field is a CRC.
+const KIND_CRC: u64 = 1;
+
 pub fn judge_message(message: &[u8]) -> Status {
     let judging = judge(message);
     show_first_four(message, judging);
@@ -103,7 +106,7 @@ fn show_last_three(message: &[u8], judging: Judging) {
     show_integrity(message, integrity, field, end);
 }
 
-// An address is counted with its closing zero; without one there is none.
+// An address is counted with its closing zero.
 fn show_addresses(message: &[u8], verdict: Verdict, v: usize) {
     let needed = needed_for_addresses(v);
     let region = behind(front(message, needed), Envelope::ADDRESSES);
@@ -112,16 +115,11 @@ fn show_addresses(message: &[u8], verdict: Verdict, v: usize) {
     let destination = through(rest, 0);
     let left = behind(rest, destination);
     show_rule(
-        b"rule 6, bytes 21 to 16 + V are two addresses, each at most 64 with its zero: V is #, source %, destination %, # left\n",
+        b"rule 6, bytes 21 to 16 + V are two addresses, each at most 64 bytes with its zero: source %, destination %, # left over\n",
         verdict,
         message.len(),
         needed,
-        &[
-            v as u64,
-            source as u64,
-            destination as u64,
-            left.len() as u64,
-        ],
+        &[source as u64, destination as u64, left.len() as u64],
     );
 }
 
@@ -145,17 +143,22 @@ fn show_integrity(message: &[u8], verdict: Verdict, place: usize, end: usize) {
         byte_at(field, 2),
         byte_at(field, 3),
     );
-    show_rule(
-        b"rule 7, the integrity field is zero for kind 0 (none), the CRC for kind 1: kind #, field $, division $\n",
-        verdict,
-        message.len(),
-        end,
-        &[
-            kind_in(flags),
-            held as u64,
-            divide(front(message, place)) as u64,
-        ],
-    );
+    match kind_in(flags) {
+        KIND_CRC => show_rule(
+            b"rule 7, the integrity field is the CRC, the kind being 1: the field says $, division gives $\n",
+            verdict,
+            message.len(),
+            end,
+            &[held as u64, divide(front(message, place)) as u64],
+        ),
+        _ => show_rule(
+            b"rule 7, the integrity field is zero where the kind is 0: the field says $, the kind is #\n",
+            verdict,
+            message.len(),
+            end,
+            &[held as u64, kind_in(flags)],
+        ),
+    }
 }
 
 // A rule's line: its words up to the colon, the verdict, and the numbers that it goes by, or what is missing.
@@ -166,22 +169,22 @@ fn show_rule(line: &[u8], verdict: Verdict, length: usize, needed: usize, number
         Verdict::Kept => text(b" kept,"),
         Verdict::Broken => text(b" broken,"),
         Verdict::NotJudged => {
-            return show_missing(length, needed, numbers);
+            return show_missing(length, needed);
         }
     }
     fill_in(behind(line, words), numbers);
 }
 
-// Where all bytes are there, it is rule 6, for V from 6 to 132 alone, and V is the first of its numbers.
-fn show_missing(length: usize, needed: usize, numbers: &[u64]) {
+// Where all bytes are there, it is rule 6, which speaks of V from 6 to 132 alone.
+fn show_missing(length: usize, needed: usize) {
     if length < needed {
         fill_in(
-            b" not judged, it needs at least @ and has #\n",
+            b" not judged, it needs at least @, the message has #\n",
             &[needed as u64, length as u64],
         );
         return;
     }
-    fill_in(b" not judged, V is # and not 6 to 132\n", numbers);
+    text(b" not judged, it is for V from 6 to 132 alone\n");
 }
 
 // A byte that is not there counts as 0; a rule that goes by it is not judged, and shows no number.

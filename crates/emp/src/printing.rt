@@ -50,7 +50,7 @@ pub fn counted(n: usize, singular: &[u8]) {
     }
 }
 
-// Words with marks in them, each for the next of the numbers: `#` in digits, `%` the same but none for 0, `@` as a count of bytes,
+// Words with marks in them, each for the next of the numbers: `#` in digits, `%` as an address of so many bytes, `@` as a count of bytes,
 // `&` as a byte in hex, `$` as four.
 pub fn fill_in(words: &[u8], numbers: &[u64]) {
     let mut next = 0;
@@ -76,7 +76,7 @@ fn fill_byte(byte: u8, numbers: &[u64], next: usize) -> usize {
 fn fill_mark(byte: u8, n: u64) -> bool {
     match byte {
         b'#' => number(n),
-        b'%' => number_or_none(n),
+        b'%' => bytes_with_zero(n),
         b'@' => bytes(n as usize),
         b'&' => {
             io::print_hex(STDOUT_FILENO, n, 2);
@@ -91,12 +91,12 @@ fn fill_mark(byte: u8, n: u64) -> bool {
     true
 }
 
-fn number_or_none(n: u64) {
+fn bytes_with_zero(n: u64) {
     if n == 0 {
-        text(b"none");
+        text(b"without a zero");
         return;
     }
-    number(n);
+    bytes(n as usize);
 }
 
 // Ends the last line of an answer. Earlier writes are not tested: where one of them failed, this one fails too.

@@ -15,7 +15,7 @@ use Rattle.sum.specs.Detection.{Bytes, bitsOf}
 use Rattle.sum.proofs.Steps.{bitStep-even, bitStep-odd, bitSteps-add, bitSteps-shifted, bitSteps-none, bitSteps-next}
 use Rattle.sum.proofs.Digits.{Fit, number, number-none, number-more, bits-number, bits-fit, bits-length}
 use Rattle.sum.proofs.Laws.{crc32-number}
-use Rattle.judge.specs.Agreement.{DividedIsCrc}
+use Rattle.judge.specs.Agreement.{DividedIsCrc, BothSumsAgree}
 use Rattle.judge.specs.Division.{divisor, inverted, room, dividedBytes, bringDown, remainder, backwards, divided}
 use Rattle.judge.proofs.BackwardsLaws.{backwards-lt, backwards-first, backwards-last, backwards-xor}
 
@@ -197,3 +197,6 @@ left-over s h =
 pub divided-is-crc : DividedIsCrc
 unfolding divided dividedBytes
 divided-is-crc s h = ap (λ (x : ℕ). bitXor x allOnes) (left-over s h) ∙ sym (crc32-number s h)
+
+pub both-sums-agree : BothSumsAgree
+both-sums-agree s a b h p q = p ∙ sym (divided-is-crc s h) ∙ sym q

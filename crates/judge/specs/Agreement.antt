@@ -1,16 +1,17 @@
 -- The two readers agree, and so do the two sums: each statement is a type, with its proof in proofs/AgreementLaws and DivisionLaws.
--- They are stated of the definitions, and of any answers that keep the promises of `read`, `judge` and `Judging::lowest`.
+-- They are stated of the definitions, and of any answers that keep the promises of `read`, `judge`, `Judging::lowest`, `crc` and `divide`.
 use Prim.Native.Nat.{ℕ}
 use mathlib.Core.Bool.{Bool, true, false}
 use mathlib.Core.List.{List, [], _∷_}
 use mathlib.Core.Path.{_≡_}
 use Rattle.sum.specs.Crc.{crc32}
 use Rattle.sum.specs.Detection.{Bytes}
+use Rattle.sum.specs.Promise.{Sums}
 use Rattle.envelope.specs.Fields.{Answer, accepted, refused}
 use Rattle.envelope.specs.Reading.{reading}
 use Rattle.envelope.specs.Told.{told, Reads}
 use Rattle.envelope.specs.declared.reader.Reading.{Reading}
-use Rattle.judge.specs.Division.{divided}
+use Rattle.judge.specs.Division.{divided, Divides}
 use Rattle.judge.specs.Rules.{judging, brokenRules, lowestOf}
 use Rattle.judge.specs.Told.{toldJudging, Judges, TellsLowest}
 use Rattle.judge.specs.declared.judging.Judging.{Judging}
@@ -47,3 +48,7 @@ LowestIsReadings =
 -- the CRC that division finds is the sum, for every list of bytes
 abbrev pub DividedIsCrc : Type 0
 DividedIsCrc = (s : List ℕ) → Bytes s → divided s ≡ crc32 s
+
+-- and so are any answers of `crc` and of `divide`
+abbrev pub BothSumsAgree : Type 0
+BothSumsAgree = (s : List ℕ) (a b : ℕ) → Bytes s → Sums s a → Divides s b → a ≡ b

@@ -1,6 +1,6 @@
 -- K5: the two readers agree on every input, and the two ways to the sum on every list of bytes.
 -- Of the definitions first, then of any answers that keep the promises of `read`, `judge` and `Judging::lowest`, and of those of the C interface.
-use Rattle.judge.specs.Agreement.{ReadersAgree, AnswersAgree, LowestIsReadings, DividedIsCrc}
+use Rattle.judge.specs.Agreement.{ReadersAgree, AnswersAgree, LowestIsReadings, DividedIsCrc, BothSumsAgree}
 use Rattle.judge.specs.Quotient.{IsDivision}
 use Rattle.judge.proofs.AgreementLaws as agreement
 use Rattle.judge.proofs.DivisionLaws as division
@@ -24,6 +24,9 @@ judge-for-c-tells-reading = exports.judge-for-c-tells-reading
 
 pub divided-is-crc : DividedIsCrc
 divided-is-crc = division.divided-is-crc
+
+pub both-sums-agree : BothSumsAgree
+both-sums-agree = division.both-sums-agree
 
 -- dividend = quotient times divisor, plus a remainder of at most 32 digits
 pub is-division : IsDivision

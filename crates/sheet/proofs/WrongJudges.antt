@@ -1,4 +1,4 @@
--- Four judges that are wrong, and for each public function of the judge two answers that a careless program would give, each refuted by computing.
+-- Four judges that are wrong, and for each public function of the judge two answers or three that a careless program would give, each refuted by computing.
 -- Whatever else such an answer says: what is refuted is one verdict or one number of it.
 use mathlib.Core.List.{[], _∷_, _++_}
 use mathlib.Core.Path.{_≡_, ap, sym, _∙_}

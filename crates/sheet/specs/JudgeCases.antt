@@ -70,7 +70,8 @@ judgeCases =
     ∷ case (set M 16 5) (4 ∷ 5 ∷ []) (6 ∷ 7 ∷ [])
     -- V 5 with all its bytes: rule 7 is judged
     ∷ case (addressed 5 (0x41 ∷ []) (0 ∷ 0 ∷ 0 ∷ 1 ∷ [])) (4 ∷ 7 ∷ []) (6 ∷ [])
-    -- V 132 and 133, all letters
+    -- V 6, of which the addresses have two zeros alone; V 132 and 133, all letters
+    ∷ case (addressed 6 (0 ∷ 0 ∷ []) zeros) [] []
     ∷ case (addressed 132 (replicate 128 0x41) zeros) (6 ∷ []) []
     ∷ case withV133 (4 ∷ []) (6 ∷ [])
     -- one byte too many: the field is still that from place 17, and not the last four
