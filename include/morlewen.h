@@ -1,5 +1,5 @@
-/* Morlewen: EMP envelopes (AAR S-9354), a judge of them, golden files of reference messages, and messages as they arrive,
- * for C and C++.
+/* Morlewen: EMP envelopes (AAR S-9354), a judge of them, golden files of reference messages, messages as they arrive, and
+ * the Class D frames that carry them (AAR S-9356), for C and C++.
  *
  * Link libexports.a (README.md says how it is built). Each function is proved to give the one answer told here, for any
  * input, and to end; none allocates, prints, keeps state or touches a file, so all may be called from several threads.
@@ -10,10 +10,11 @@
  *   - what is lent to be written overlaps nothing else that is lent in the same call.
  * Any content, any length and any number is fine.
  *
- * THE ANSWER. A function that can refuse, has two things to tell, or tells a size returns one 64-bit number of four slots:
+ * THE ANSWER. A function that can refuse, has two things to tell, or tells a size returns one 64-bit number of four slots;
+ * morlewen_frame_first alone returns a plain size, which may be larger than a slot.
  *
  *   bits  0-7   number    0: done. Otherwise the refusal, by the numbers below.
- *   bits  8-15  reading   with 25, 31 and 34, and from morlewen_judge, the number (1-7) that reading gives; otherwise 0.
+ *   bits  8-15  reading   with 25, 31, 34 and 67, and from morlewen_judge, the number (1-7) that reading gives; otherwise 0.
  *   bits 16-31  count     a number of records, or what else a function says; otherwise 0.
  *   bits 32-63  value     done: a length, a total, or what else a function says; otherwise 0.
  *                         refused: kept for a place in the message; 0 in this version.
@@ -68,7 +69,17 @@ enum {
     MORLEWEN_QOS_DOES_NOT_FIT = 41, /* one of the five numbers does not fit its bits */
     /* messages as they arrive */
     MORLEWEN_FEED_TOO_LONG = 51,    /* the announced length is over 510 bytes */
-    MORLEWEN_FEED_CUT = 52          /* the end came inside a message */
+    MORLEWEN_FEED_CUT = 52,         /* the end came inside a message */
+    /* Class D frames; wrapping a message gives 67 before 68 */
+    MORLEWEN_FRAME_TOO_SHORT = 61,  /* shorter than a frame with an empty body, which has 13 bytes */
+    MORLEWEN_NO_STX = 62,           /* the first byte is not STX, 02 */
+    MORLEWEN_FRAME_VERSION = 63,    /* the protocol version or the message version is not 2 */
+    MORLEWEN_FRAME_TYPE = 64,       /* the type is neither data message, 1, nor acknowledgment, 2 */
+    MORLEWEN_FRAME_LENGTH = 65,     /* the data length does not put ETX last, or is not 4 in an acknowledgment */
+    MORLEWEN_NO_ETX = 66,           /* the last byte is not ETX, 03 */
+    MORLEWEN_FRAME_UNREAD = 67,     /* reading refuses the message; the slot `reading` says why */
+    MORLEWEN_FRAME_NO_ROOM = 68,    /* the buffer is shorter than the frame */
+    MORLEWEN_FRAME_TOO_LONG = 69    /* longer than a data length can state: no message is, and it is never given */
 };
 
 enum {
@@ -263,6 +274,42 @@ void morlewen_feed_restart(uint8_t kept[MORLEWEN_FEED_ROOM], uint64_t numbers[MO
 /* The message that was found, at the front of the bytes kept until the next byte or a restart: `value` is its size, or 0 where no
  * message is whole. A MORLEWEN_FEED_COUNT over 510 stands for 510. Never refused. */
 uint64_t morlewen_feed_message(const uint8_t kept[MORLEWEN_FEED_ROOM], const uint64_t numbers[MORLEWEN_FEED_NUMBERS]);
+
+/* ---- Class D frames ----
+ * A frame has 13 bytes around its body: STX, the protocol version (a byte), COMMID (four), type (one), message version (one), data
+ * length (four), then the body, then ETX; numbers are big-endian. The body of a data message is an EMP message, that of an
+ * acknowledgment the COMMID that it acknowledges. Any number is a COMMID, 0 too, and a body may hold any bytes, STX and ETX too. */
+
+enum {
+    MORLEWEN_COMMID = 0,       /* the frame's own, in its header */
+    MORLEWEN_ACKNOWLEDGED = 1, /* the one that an acknowledgment acknowledges, in its body; 0 of a data message */
+    MORLEWEN_COMMIDS = 2
+};
+
+enum { MORLEWEN_DATA_MESSAGE = 1, MORLEWEN_ACKNOWLEDGMENT = 2 };
+
+/* Where the message begins in every data message, and how long every acknowledgment is. */
+enum { MORLEWEN_FRAME_BODY = 12, MORLEWEN_ACKNOWLEDGMENT_SIZE = 17 };
+
+/* Unwraps one frame, which is all of the bytes. Done: both of `commids` are written, and `count` is MORLEWEN_DATA_MESSAGE: `value`
+ * is the size of the message, which begins at MORLEWEN_FRAME_BODY, and every one of the sixteen fields is written as morlewen_read
+ * would, with places from the message's first byte; or it is MORLEWEN_ACKNOWLEDGMENT: `value` is 0, and `fields` is as it was.
+ * Refused: 61 to 67, the first that applies. */
+uint64_t morlewen_unwrap(const uint8_t *frame, size_t length, uint32_t commids[MORLEWEN_COMMIDS],
+                         uint64_t fields[MORLEWEN_FIELDS]);
+
+/* Wraps a message as a data message, at the front of the buffer. Done: `value` is the frame's length, 13 more than the message's,
+ * and the buffer beyond it is untouched. Refused: 67, then 68. */
+uint64_t morlewen_wrap(const uint8_t *message, size_t length, uint32_t commid, uint8_t *buffer, size_t room);
+
+/* Writes the acknowledgment of a COMMID, with a COMMID of its own, at the front of the buffer. Done: `value` is
+ * MORLEWEN_ACKNOWLEDGMENT_SIZE, and the buffer beyond it is untouched. Refused: 68. */
+uint64_t morlewen_acknowledge(uint32_t commid, uint32_t acknowledged, uint8_t *buffer, size_t room);
+
+/* How many bytes at the front of a capture, which has frames end to end, the first frame takes: 13 and its data length; or all of
+ * them, where fewer are there than that, or fewer than 13. Nothing else is looked at: morlewen_unwrap of these bytes tells what they
+ * are. Of bytes that are there at least one is taken. */
+size_t morlewen_frame_first(const uint8_t *capture, size_t length);
 
 #ifdef __cplusplus
 }

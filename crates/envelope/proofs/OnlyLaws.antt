@@ -9,7 +9,7 @@ use Rattle.sum.specs.Promise.{Only₁}
 use Rattle.envelope.specs.Fields.{Span, HeaderFields, AddressingFields, absent, present, IntegrityFields, none, crc, application, Fields, Answer, accepted, refused}
 use Rattle.envelope.specs.Fields as paper
 use Rattle.envelope.specs.Lateness.{LatenessAnswer, noClock, late, inTime, lateness, toldLateness, JudgesLateness}
-use Rattle.envelope.specs.Message.{Given}
+use Rattle.envelope.specs.Message.{Given, FourDigits}
 use Rattle.envelope.specs.Numbers.{TwoBytes, ThreeBytes, FourBytes}
 use Rattle.envelope.specs.Promise.{Only₂}
 use Rattle.envelope.specs.Qos.{QosFields, splitting, QosAnswer, joining, toldQos, toldJoining, Splits, Joins}
@@ -150,6 +150,9 @@ only-three-bytes a b c x y p q = p ∙ sym q
 
 pub only-four-bytes : (a b c d : ℕ) → Only₁ (FourBytes a b c d)
 only-four-bytes a b c d x y p q = p ∙ sym q
+
+pub only-four-digits : (n : ℕ) → Only₁ (FourDigits n)
+only-four-digits n x y p q = p ∙ sym q
 
 -- ---- QoS
 

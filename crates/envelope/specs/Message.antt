@@ -3,6 +3,7 @@
 use Prim.Native.Nat.{ℕ, _/_, _%_}
 use mathlib.Core.Bool.{cond}
 use mathlib.Core.List.{List, [], _∷_, _++_}
+use mathlib.Core.Path.{_≡_}
 use lib.Dec.{eqb}
 use lib.ListN.{length}
 use Rattle.sum.specs.Crc.{crc32}
@@ -32,6 +33,10 @@ inThree n = n / 65536 ∷ n / 256 % 256 ∷ n % 256 ∷ []
 
 abbrev pub inFour : ℕ → List ℕ
 inFour n = n / 16777216 ∷ n / 65536 % 256 ∷ n / 256 % 256 ∷ n % 256 ∷ []
+
+-- what `numbers::four_digits` promises
+abbrev pub FourDigits : ℕ → List ℕ → Type 0
+FourDigits n r = r ≡ inFour n
 
 -- the 17 bytes of a header, with V and D
 abbrev pub headerBytes : HeaderFields → ℕ → ℕ → List ℕ

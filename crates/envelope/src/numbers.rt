@@ -1,7 +1,8 @@
-// Big-endian numbers, from bytes by value and from a place of a slice.
+// Big-endian numbers: from bytes by value, from a place of a slice, and back into bytes.
 ghost use mathlib.Core.Path.{_≡_};
 ghost use Prim.Native.Nat.{_+_, _<_, _≤_};
 ghost use lib.ListN.{length};
+ghost use Rattle.envelope.specs.Message.{FourDigits};
 ghost use Rattle.envelope.specs.Numbers.{TwoBytes, ThreeBytes, FourBytes, twoAt, threeAt, fourAt};
 
 pub fn two_bytes(a: u8, b: u8) -> u16
@@ -20,6 +21,17 @@ pub fn four_bytes(a: u8, b: u8, c: u8, d: u8) -> u32
     ensures { λ r. ⌜ FourBytes a b c d r ⌝ }
 {
     wide(a) * 16777216 + wide(b) * 65536 + wide(c) * 256 + wide(d)
+}
+
+pub fn four_digits(number: u32) -> [u8; 4]
+    ensures { λ r. ⌜ FourDigits number r ⌝ }
+{
+    [
+        (number / 16777216) as u8,
+        (number / 65536 % 256) as u8,
+        (number / 256 % 256) as u8,
+        (number % 256) as u8,
+    ]
 }
 
 pub(crate) fn two_at(bytes: &[u8], place: usize) -> u16

@@ -6,13 +6,14 @@ ghost use Prim.Native.Nat.{_+_, _≤_, _<_};
 ghost use lib.ListN.{length};
 ghost use Rattle.envelope.specs.Helpers.{Allowed, pasted, variableLength};
 ghost use Rattle.envelope.specs.Layout.{headerSize, largestVariable, largestAddress, largestBody};
-ghost use Rattle.envelope.specs.Message.{inFour, headerBytes, variableBytes, beforeField, fieldNumber, message};
+ghost use Rattle.envelope.specs.Message.{headerBytes, variableBytes, beforeField, fieldNumber, message};
 ghost use Rattle.envelope.specs.Told.{toldHeader};
 ghost use Rattle.envelope.specs.Writing.{badEnd, badEnds, strayIntegrity, writing, answerOf, toldRouting, toldWriting, NumbersWriteFault, given, Writes};
 use crate::addresses::first_zero;
 use crate::fields::Envelope;
 use crate::fields::Header;
 use crate::flags;
+use crate::numbers::four_digits;
 
 pub enum Routing {
     Absent,
@@ -268,17 +269,6 @@ fn header_digits(header: Header, v: usize, d: usize) -> [u8; Envelope::HEADER]
         (header.time / 256 % 256) as u8,
         (header.time % 256) as u8,
         v as u8,
-    ]
-}
-
-fn four_digits(number: u32) -> [u8; Envelope::FIELD]
-    ensures { λ r. ⌜ r ≡ inFour number ⌝ }
-{
-    [
-        (number / 16777216) as u8,
-        (number / 65536 % 256) as u8,
-        (number / 256 % 256) as u8,
-        (number % 256) as u8,
     ]
 }
 

@@ -15,6 +15,13 @@ use Rattle.feed.specs.Feeding.{State, Finding, nothing, Outcome, ending}
 use Rattle.feed.specs.Feeding as feed
 use Rattle.feed.specs.Messages.{foundSize, Few}
 use Rattle.feed.proofs.FewLaws.{end-finds-no-message}
+use Rattle.frame.specs.Layout.{leastSize}
+use Rattle.frame.specs.Sizes.{messageSize, wroteLength as wroteFrame}
+use Rattle.frame.specs.Unwrapping.{UnwrapAnswer, unwrapping}
+use Rattle.frame.specs.Unwrapping as unwrap
+use Rattle.frame.specs.Wrapping.{WrapAnswer, wrapping, acknowledging}
+use Rattle.frame.specs.Wrapping as wrap
+use Rattle.frame.proofs.SizeLaws.{unwraps-no-longer, wraps-no-longer, acknowledges-no-longer}
 use Rattle.golden.specs.Checking.{CheckAnswer, counted, refused, checking}
 use Rattle.golden.specs.Comparing.{CompareAnswer, same, different, unlike, comparing, answerOf}
 use Rattle.golden.specs.File.{mostRecords}
@@ -31,6 +38,7 @@ use Rattle.envelope.proofs.WriteLaws.{writes-no-longer}
 use Rattle.golden.proofs.FewLaws.{check-names-few, count-is-few, find-opens-few, step-reaches-short, compare-totals-few}
 use Rattle.exports.specs.Envelopes.{writeSlots, rewriteSlots}
 use Rattle.exports.specs.Feeds.{foundSlots}
+use Rattle.exports.specs.Frames.{unwrapSlots, wrapSlots}
 use Rattle.exports.specs.Goldens.{countSlots, checkSlots, findSlots, stepSlots, compareSlots}
 use Rattle.exports.specs.Word.{word, WordTellsItsSlots}
 
@@ -99,6 +107,24 @@ take-fits o few = (omega (arith, few .used), omega (arith, few .size, found-valu
 
 pub end-fits : (s : State) (o : Outcome) → o ≡ ending s → foundSlots (o .finding) 0 .value < 2 ^ 32
 end-fits s o e = rw e (omega (arith, end-finds-no-message s, found-value (ending s .finding) 0))
+
+unwrap-in : (a : UnwrapAnswer) → messageSize a ≤ largestMessage → unwrapSlots a .value < 2 ^ 32
+unwrap-in (unwrap.message commid p f) h = omega (arith, h)
+unwrap-in (unwrap.acknowledgment commid acknowledged) h = omega arith
+unwrap-in (unwrap.declined r) h = omega arith
+
+pub unwrap-fits : (s : List ℕ) (a : UnwrapAnswer) → Bytes s → a ≡ unwrapping s → unwrapSlots a .value < 2 ^ 32
+unwrap-fits s a bytes e = rw e (unwrap-in (unwrapping s) (unwraps-no-longer s bytes))
+
+wrap-in : (a : WrapAnswer) → wroteFrame a ≤ leastSize + largestMessage → wrapSlots a .value < 2 ^ 32
+wrap-in (wrap.wrote n) h = omega (arith, h)
+wrap-in (wrap.barred r) h = omega arith
+
+pub wrap-fits : (m : List ℕ) (commid room : ℕ) (a : WrapAnswer) → Bytes m → a ≡ wrap.answerOf (wrapping m commid room) → wrapSlots a .value < 2 ^ 32
+wrap-fits m commid room a bytes e = rw e (wrap-in (wrap.answerOf (wrapping m commid room)) (wraps-no-longer m commid room bytes))
+
+pub acknowledge-fits : (commid acknowledged room : ℕ) (a : WrapAnswer) → a ≡ wrap.answerOf (acknowledging commid acknowledged room) → wrapSlots a .value < 2 ^ 32
+acknowledge-fits commid acknowledged room a e = rw e (wrap-in (wrap.answerOf (acknowledging commid acknowledged room)) (acknowledges-no-longer commid acknowledged room))
 
 -- ---- the slots come back
 

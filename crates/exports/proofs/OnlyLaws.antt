@@ -9,6 +9,7 @@ use Rattle.envelope.specs.Qos.{QosFields}
 use Rattle.golden.specs.Finding.{NameFields}
 use Rattle.exports.specs.Envelopes.{ReadsForC, WritesForC, RewritesForC, SplitsForC, JoinsForC, JudgesLatenessForC, JudgesSequenceForC}
 use Rattle.exports.specs.Feeds.{Lent, TakesForC, EndsForC, RestartsForC, HoldsForC}
+use Rattle.exports.specs.Frames.{FrameLent, UnwrapsForC, WrapsForC, AcknowledgesForC}
 use Rattle.exports.specs.Goldens.{CountsForC, ChecksForC, FindsForC, EntersForC, StepsForC, ComparesForC, MakesForC}
 use Rattle.exports.specs.Verdicts.{JudgesForC}
 
@@ -75,3 +76,12 @@ only-restarts-for-c = only-those _ _
 
 pub only-holds-for-c : (kept numbers : List ℕ) → Only₁ (HoldsForC kept numbers)
 only-holds-for-c kept numbers = only-that _
+
+pub only-unwraps-for-c : (bytes : List ℕ) (entry : FrameLent) → Only₂ (UnwrapsForC bytes entry)
+only-unwraps-for-c bytes entry = only-those _ _
+
+pub only-wraps-for-c : (m : List ℕ) (commid : ℕ) (entry : List ℕ) → Only₂ (WrapsForC m commid entry)
+only-wraps-for-c m commid entry = only-those _ _
+
+pub only-acknowledges-for-c : (commid acknowledged : ℕ) (entry : List ℕ) → Only₂ (AcknowledgesForC commid acknowledged entry)
+only-acknowledges-for-c commid acknowledged entry = only-those _ _

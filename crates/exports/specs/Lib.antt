@@ -3,4 +3,5 @@ pub mod Envelopes
 pub mod Goldens
 pub mod Verdicts
 pub mod Feeds
+pub mod Frames
 pub mod Helpers

@@ -7,7 +7,7 @@ use Rattle.sum.specs.Promise.{Only₁, Sums}
 use Rattle.sum.proofs.Laws.{only-sums}
 use Rattle.envelope.specs.Announcing.{Announces}
 use Rattle.envelope.specs.Lateness.{JudgesLateness}
-use Rattle.envelope.specs.Message.{Given}
+use Rattle.envelope.specs.Message.{Given, FourDigits}
 use Rattle.envelope.specs.Numbers.{TwoBytes, ThreeBytes, FourBytes}
 use Rattle.envelope.specs.Promise.{Only₂}
 use Rattle.envelope.specs.Qos.{QosFields, Splits, Joins}
@@ -49,8 +49,15 @@ use Rattle.feed.specs.declared.fault.Fault.{Fault as FeedFault}
 use Rattle.feed.specs.declared.feeder.Feed.{Feed}
 use Rattle.feed.specs.declared.step.Standing.{Standing}
 use Rattle.feed.proofs.OnlyLaws as feed
+use Rattle.frame.specs.Capturing.{MeasuresFirst}
+use Rattle.frame.specs.Refusal.{NumbersFault as NumbersFrameFault}
+use Rattle.frame.specs.Unwrapping.{Unwraps}
+use Rattle.frame.specs.Wrapping.{Wraps, Acknowledges}
+use Rattle.frame.specs.declared.unwrapper.Fault.{Fault as FrameFault}
+use Rattle.frame.proofs.OnlyLaws as frame
 use Rattle.exports.specs.Envelopes.{ReadsForC, WritesForC, RewritesForC, SplitsForC, JoinsForC, JudgesLatenessForC, JudgesSequenceForC}
 use Rattle.exports.specs.Feeds.{Lent, TakesForC, EndsForC, RestartsForC, HoldsForC}
+use Rattle.exports.specs.Frames.{FrameLent, UnwrapsForC, WrapsForC, AcknowledgesForC}
 use Rattle.exports.specs.Goldens.{CountsForC, ChecksForC, FindsForC, EntersForC, StepsForC, ComparesForC, MakesForC}
 use Rattle.exports.specs.Verdicts.{JudgesForC}
 use Rattle.exports.specs.Word.{WordTellsItsSlots}
@@ -93,6 +100,9 @@ three-bytes-has-one-answer = only.only-three-bytes
 
 pub four-bytes-has-one-answer : (a b c d : ℕ) → Only₁ (FourBytes a b c d)
 four-bytes-has-one-answer = only.only-four-bytes
+
+pub four-digits-has-one-answer : (n : ℕ) → Only₁ (FourDigits n)
+four-digits-has-one-answer = only.only-four-digits
 
 pub split-has-one-answer : (q : ℕ) → Only₁ (Splits q)
 split-has-one-answer = only.only-splits
@@ -175,7 +185,24 @@ held-has-one-answer = feed.only-holds
 pub feed-fault-number-has-one-answer : (f : FeedFault) → Only₁ (NumbersFeedFault f)
 feed-fault-number-has-one-answer = feed.only-numbers-fault
 
--- ---- the C interface; `morlewen_crc` and `morlewen_distance` promise what `crc` and `distance` do
+-- ---- frames
+
+pub unwrap-has-one-answer : (bytes : List ℕ) → Only₁ (Unwraps bytes)
+unwrap-has-one-answer = frame.only-unwraps
+
+pub wrap-has-one-outcome : (m : List ℕ) (commid : ℕ) (entry : List ℕ) → Only₂ (Wraps m commid entry)
+wrap-has-one-outcome = frame.only-wraps
+
+pub acknowledge-has-one-outcome : (commid acknowledged : ℕ) (entry : List ℕ) → Only₂ (Acknowledges commid acknowledged entry)
+acknowledge-has-one-outcome = frame.only-acknowledges
+
+pub first-has-one-answer : (capture : List ℕ) → Only₁ (MeasuresFirst capture)
+first-has-one-answer = frame.only-measures-first
+
+pub frame-fault-numbers-have-one-answer : (f : FrameFault) → Only₁ (NumbersFrameFault f)
+frame-fault-numbers-have-one-answer = frame.only-numbers-fault
+
+-- ---- the C interface; `morlewen_crc`, `morlewen_distance` and `morlewen_frame_first` promise what `crc`, `distance` and `first` do
 
 pub read-for-c-has-one-outcome : (bytes entry : List ℕ) → Only₂ (ReadsForC bytes entry)
 read-for-c-has-one-outcome = exports.only-reads-for-c
@@ -233,6 +260,15 @@ feed-restart-for-c-has-one-outcome = exports.only-restarts-for-c
 
 pub feed-message-for-c-has-one-answer : (kept numbers : List ℕ) → Only₁ (HoldsForC kept numbers)
 feed-message-for-c-has-one-answer = exports.only-holds-for-c
+
+pub unwrap-for-c-has-one-outcome : (bytes : List ℕ) (entry : FrameLent) → Only₂ (UnwrapsForC bytes entry)
+unwrap-for-c-has-one-outcome = exports.only-unwraps-for-c
+
+pub wrap-for-c-has-one-outcome : (m : List ℕ) (commid : ℕ) (entry : List ℕ) → Only₂ (WrapsForC m commid entry)
+wrap-for-c-has-one-outcome = exports.only-wraps-for-c
+
+pub acknowledge-for-c-has-one-outcome : (commid acknowledged : ℕ) (entry : List ℕ) → Only₂ (AcknowledgesForC commid acknowledged entry)
+acknowledge-for-c-has-one-outcome = exports.only-acknowledges-for-c
 
 -- nothing is lost in an answer's word: the four slots come back
 pub a-word-tells-its-slots : WordTellsItsSlots

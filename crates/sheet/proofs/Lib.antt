@@ -16,8 +16,12 @@ pub mod WrongAnswers
 pub mod WrongGolden
 pub mod WrongFeeds
 pub mod WrongJudges
+pub mod Framing
+pub mod FrameCases
+pub mod WrongFrames
 pub mod WrongExports
 pub mod WrongRules
 pub mod WrongStatements
 pub mod Instances
 pub mod FeedInstances
+pub mod FrameInstances

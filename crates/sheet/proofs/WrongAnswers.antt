@@ -16,7 +16,7 @@ use Rattle.envelope.specs.Flags.{badFlags}
 use Rattle.envelope.specs.Heading.{announced, badVariableSize, heading}
 use Rattle.envelope.specs.IntegrityField.{badIntegrity}
 use Rattle.envelope.specs.Lateness.{latenessOf, JudgesLateness}
-use Rattle.envelope.specs.Message.{Given, beforeField, fieldNumber, message}
+use Rattle.envelope.specs.Message.{Given, beforeField, fieldNumber, message, FourDigits}
 use Rattle.envelope.specs.Numbers.{twoAt, threeAt, fourAt, TwoBytes, ThreeBytes, FourBytes}
 use Rattle.envelope.specs.Qos.{QosFields, splitting, joining, Splits, Joins}
 use Rattle.envelope.specs.Reading.{readingWhole, reading}
@@ -181,6 +181,12 @@ four-bytes-are-big-endian kept = apart 0x04030201 0x01020304 tt kept
 
 pub four-bytes-are-four : FourBytes 1 2 3 4 0x020304 → ⊥
 four-bytes-are-four kept = apart 0x020304 0x01020304 tt kept
+
+pub four-digits-are-big-endian : FourDigits 0x01020304 (4 ∷ 3 ∷ 2 ∷ 1 ∷ []) → ⊥
+four-digits-are-big-endian kept = apart 4 1 tt (ap (λ (s : List ℕ). getD s 0 0) kept)
+
+pub four-digits-are-four : FourDigits 1 (1 ∷ []) → ⊥
+four-digits-are-four kept = apart 1 4 tt (ap length kept)
 
 -- ---- qos::split: priority taken for class; all zero. qos::join: a number that does not fit run round; all refused
 

@@ -1,9 +1,9 @@
 -- For each promise of the C interface two answers that a careless program would give, each refuted by computing.
--- `morlewen_crc` and `morlewen_distance` promise what `crc` and `distance` do; their wrong answers stand in WrongAnswers.
+-- `morlewen_crc`, `morlewen_distance` and `morlewen_frame_first` promise what `crc`, `distance` and `first` do; their wrong answers stand in WrongAnswers and WrongFrames.
 use mathlib.Core.List.{List, [], _∷_}
 use mathlib.Core.Path.{ap, _∙_}
 use Prim.Native.Nat.{ℕ, _+_, _*_}
-use lib.ListN.{take, getD, replicate}
+use lib.ListN.{take, set, getD, replicate}
 use Rattle.envelope.specs.Fields.{Answer}
 use Rattle.envelope.specs.Lateness.{latenessOf}
 use Rattle.envelope.specs.Qos.{splitting, joining}
@@ -19,17 +19,23 @@ use Rattle.golden.specs.Making.{making, recordOf}
 use Rattle.golden.specs.Stepping.{stepAt, nextAfter}
 use Rattle.feed.specs.Feeding.{State, refused as refusedStand, Outcome as FeedOutcome, ending}
 use Rattle.feed.specs.Verdict.{tooLong}
+use Rattle.frame.specs.Unwrapping.{UnwrapAnswer}
+use Rattle.frame.specs.Wrapping.{Outcome as FrameOutcome}
+use Rattle.frame.specs.Wrapping as frame
 use Rattle.judge.specs.Rules.{leastRule, versionRule, addressesRule}
 use Rattle.exports.specs.Envelopes.{readSlots, fieldsAfter, ReadsForC, writeSlots, WritesForC, RewritesForC, qosFor, SplitsForC, JoinsForC, JudgesLatenessForC, JudgesSequenceForC}
 use Rattle.exports.specs.Feeds.{foundSlots, Lent, lent, lentAfter, TakesForC, EndsForC, RestartsForC, HoldsForC}
+use Rattle.exports.specs.Frames.{unwrapSlots, commidsAfter, messageFields, FrameLent, lentFor, UnwrapsForC, wrapSlots, WrapsForC, AcknowledgesForC}
 use Rattle.exports.specs.Goldens.{CountsForC, checkSlots, ChecksForC, nameFor, FindsForC, EntersForC, StepsForC, ComparesForC, MakesForC}
 use Rattle.exports.specs.Verdicts.{JudgesForC}
 use Rattle.exports.specs.Word.{slots, word, sized}
 use Rattle.sheet.specs.Cases.{M}
 use Rattle.sheet.specs.FeedCases.{heldBy, announcing511}
+use Rattle.sheet.specs.FrameCases.{held, reply}
 use Rattle.sheet.proofs.Apart.{apart}
 use Rattle.sheet.proofs.Cases.{starred}
 use Rattle.sheet.proofs.FeedCases.{feed-cases}
+use Rattle.sheet.proofs.FrameCases.{unwrap-cases, wrap-cases}
 use Rattle.sheet.proofs.OneFeed.{newFeed}
 use Rattle.sheet.proofs.WrongAnswers.{givenM, writes-M}
 use Rattle.sheet.proofs.WrongGolden.{checks-M}
@@ -233,3 +239,43 @@ feed-message-for-c-is-no-half-message kept = apart (20 * 4294967296) 0 tt kept
 pub feed-message-for-c-is-the-message : HoldsForC M (21 ∷ 255 ∷ []) 0 → ⊥
 unfolding word
 feed-message-for-c-is-the-message kept = apart 0 (21 * 4294967296) tt kept
+
+-- ---- a frame unwrapped: an acknowledgment told as a data message; fields written of one; COMMIDs written on a refusal
+
+pub unwrap-for-c-tells-the-type : (entry exit : FrameLent) → UnwrapsForC reply entry (word (slots 0 0 1 0)) exit → ⊥
+unfolding word
+unwrap-for-c-tells-the-type entry exit kept = apart 65536 131072 tt (kept .0 ∙ ap (λ (a : UnwrapAnswer). word (unwrapSlots a)) (unwrap-cases .acknowledged))
+
+pub unwrap-for-c-keeps-the-fields : (commids after : List ℕ) (r : ℕ) → UnwrapsForC reply (lentFor commids (9 ∷ [])) r (lentFor after (0 ∷ [])) → ⊥
+unwrap-for-c-keeps-the-fields commids after r kept =
+    apart 0 9 tt
+    (ap (λ (l : FrameLent). getD (l .fields) 0 0) (kept .1)
+    ∙ ap (λ (a : UnwrapAnswer). getD (messageFields a (9 ∷ [])) 0 0) (unwrap-cases .acknowledged))
+
+pub unwrap-for-c-keeps-the-commids-on-a-refusal : (fields after : List ℕ) (r : ℕ) → UnwrapsForC [] (lentFor (9 ∷ []) fields) r (lentFor (0 ∷ []) after) → ⊥
+unwrap-for-c-keeps-the-commids-on-a-refusal fields after r kept =
+    apart 0 9 tt
+    (ap (λ (l : FrameLent). getD (l .commids) 0 0) (kept .1)
+    ∙ ap (λ (a : UnwrapAnswer). getD (commidsAfter a (9 ∷ [])) 0 0) (unwrap-cases .nothing))
+
+-- ---- a message wrapped: reading's number lost; the message's length for the frame's. An acknowledgment: no length told; 16 bytes for room enough
+
+pub wrap-for-c-passes-reading-on : (exit : List ℕ) → WrapsForC (set held 0 5) 0x01020304 [] 67 exit → ⊥
+unfolding word
+wrap-for-c-passes-reading-on exit kept =
+    apart 67 (67 + 2 * 256) tt (kept .0 ∙ ap (λ (o : FrameOutcome). word (wrapSlots (frame.answerOf o))) (wrap-cases .unread-first))
+
+pub wrap-for-c-tells-the-frames-length : (exit : List ℕ) → WrapsForC held 0x01020304 (replicate 37 0) (word (sized 24)) exit → ⊥
+unfolding word
+wrap-for-c-tells-the-frames-length exit kept =
+    apart (24 * 4294967296) (37 * 4294967296) tt (kept .0 ∙ ap (λ (o : FrameOutcome). word (wrapSlots (frame.answerOf o))) (wrap-cases .just-room))
+
+pub acknowledge-for-c-tells-the-length : (exit : List ℕ) → AcknowledgesForC 9 0x01020304 (replicate 17 0) 0 exit → ⊥
+unfolding word
+acknowledge-for-c-tells-the-length exit kept =
+    apart 0 (17 * 4294967296) tt (kept .0 ∙ ap (λ (o : FrameOutcome). word (wrapSlots (frame.answerOf o))) (wrap-cases .acknowledges))
+
+pub acknowledge-for-c-refuses-16-bytes : (exit : List ℕ) → AcknowledgesForC 9 0x01020304 (replicate 16 0) (word (sized 17)) exit → ⊥
+unfolding word
+acknowledge-for-c-refuses-16-bytes exit kept =
+    apart (17 * 4294967296) 68 tt (kept .0 ∙ ap (λ (o : FrameOutcome). word (wrapSlots (frame.answerOf o))) (wrap-cases .no-room-acknowledged))

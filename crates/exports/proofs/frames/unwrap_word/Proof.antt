@@ -1,0 +1,60 @@
+-- `frames::unwrap_word`: the frame's type and the message's size, or a refusal.
+use mathlib.Core.Path.{subst, ap, sym, _∙_}
+use Prim.Native.Nat.{_<_, _^_}
+use native.Mathlib.Omega.{arith}
+use Rattle.frame.specs.Unwrapping.{toldUnwrapped}
+use Rattle.frame.specs.declared.unwrapper.Unwrapped.{Unwrapped}
+use Rattle.exports.specs.Frames.{unwrapSlots}
+use Rattle.exports.specs.Word.{word}
+use borrow.Author.Needs.{needs}
+use Rattle.exports.proofs.frames.unwrap_word.Statement.{statement}
+use Rattle.exports.proofs.frames.unwrap_word.Tie as tie
+
+enum-known-unwrapped : tie.Need-enum-known-unwrapped
+enum-known-unwrapped c = search needs
+
+cast-answer : tie.Need-cast-answer
+cast-answer c = search needs
+
+answer-requires : tie.Need-answer-requires
+answer-requires c κs = (omega arith, subst (λ (x : Unwrapped). unwrapSlots (toldUnwrapped x) .value < 2 ^ 32) (c .before .before .unwrapped .given .1) (c .before .before .before .before .pre))
+
+enum-told : tie.Need-enum-told
+enum-told c = search needs
+
+cast-answer-2 : tie.Need-cast-answer-2
+cast-answer-2 c = search needs
+
+answer-requires-2 : tie.Need-answer-requires-2
+answer-requires-2 c κs = search needs
+
+enum-known-unwrapped-2 : tie.Need-enum-known-unwrapped-2
+enum-known-unwrapped-2 c = search needs
+
+frame-refused-requires : tie.Need-frame-refused-requires
+frame-refused-requires c κs = search needs
+
+returns : tie.Need-returns
+returns c = c .answer .ensures ∙ ap (λ (x : Unwrapped). word (unwrapSlots (toldUnwrapped x))) (sym (c .before .before .before .unwrapped .given .1))
+
+returns-2 : tie.Need-returns-2
+returns-2 c = c .answer2 .ensures ∙ ap (λ (x : Unwrapped). word (unwrapSlots (toldUnwrapped x))) (sym (c .before .enum-told .given .1))
+
+returns-3 : tie.Need-returns-3
+returns-3 c = c .frame-refused .ensures ∙ ap (λ (x : Unwrapped). word (unwrapSlots (toldUnwrapped x))) (sym (c .before .before .unwrapped2 .given .1))
+
+pub unwrap-word-spec : {M : Type 1} → statement M
+unwrap-word-spec =
+    tie.close
+    (tie.spec
+    enum-known-unwrapped
+    cast-answer
+    answer-requires
+    enum-told
+    cast-answer-2
+    answer-requires-2
+    enum-known-unwrapped-2
+    frame-refused-requires
+    returns
+    returns-2
+    returns-3)

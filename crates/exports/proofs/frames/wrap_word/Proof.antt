@@ -1,0 +1,40 @@
+-- `frames::wrap_word`: the frame's length, or a refusal.
+use mathlib.Core.Path.{subst, ap, sym, _∙_}
+use Prim.Native.Nat.{_<_, _^_}
+use native.Mathlib.Omega.{arith}
+use Rattle.frame.specs.Wrapping.{toldWrapped}
+use Rattle.frame.specs.declared.wrapper.Wrapped.{Wrapped}
+use Rattle.exports.specs.Frames.{wrapSlots}
+use Rattle.exports.specs.Word.{word}
+use borrow.Author.Needs.{needs}
+use Rattle.exports.proofs.frames.wrap_word.Statement.{statement}
+use Rattle.exports.proofs.frames.wrap_word.Tie as tie
+
+enum-known-wrapped : tie.Need-enum-known-wrapped
+enum-known-wrapped c = search needs
+
+answer-requires : tie.Need-answer-requires
+answer-requires c κs = (omega arith, subst (λ (x : Wrapped). wrapSlots (toldWrapped x) .value < 2 ^ 32) (c .before .wrapped .given .1) (c .before .before .before .pre))
+
+enum-known-wrapped-2 : tie.Need-enum-known-wrapped-2
+enum-known-wrapped-2 c = search needs
+
+frame-refused-requires : tie.Need-frame-refused-requires
+frame-refused-requires c κs = search needs
+
+returns : tie.Need-returns
+returns c = c .answer .ensures ∙ ap (λ (x : Wrapped). word (wrapSlots (toldWrapped x))) (sym (c .before .before .wrapped .given .1))
+
+returns-2 : tie.Need-returns-2
+returns-2 c = c .frame-refused .ensures ∙ ap (λ (x : Wrapped). word (wrapSlots (toldWrapped x))) (sym (c .before .before .wrapped2 .given .1))
+
+pub wrap-word-spec : {M : Type 1} → statement M
+wrap-word-spec =
+    tie.close
+    (tie.spec
+    enum-known-wrapped
+    answer-requires
+    enum-known-wrapped-2
+    frame-refused-requires
+    returns
+    returns-2)

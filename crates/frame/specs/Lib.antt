@@ -1,0 +1,9 @@
+pub mod Layout
+pub mod Frames
+pub mod Refusal
+pub mod Unwrapping
+pub mod Capturing
+pub mod Wrapping
+pub mod Sizes
+pub mod RoundTrips
+pub mod Detecting
