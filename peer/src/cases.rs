@@ -1,6 +1,7 @@
 //! The worked examples of the rules, and sums that others have published.
 //! Each is built here byte by byte and carries the answer it must have.
 
+pub mod framed;
 pub mod judged;
 
 /// A message and its answer: 0 where it is accepted, else the refusal's number.

@@ -17,6 +17,7 @@ pub const LINE: usize = 3;
 pub const PART: usize = 2;
 pub const FEED_ROOM: usize = 510;
 pub const FEED_NUMBERS: usize = 2;
+pub const COMMIDS: usize = 2;
 
 /// Places in the fields of a message.
 pub mod field {
@@ -86,3 +87,12 @@ pub mod feed_number {
 
 pub const FEED_INSIDE: u64 = 0;
 pub const FEED_WHOLE: u64 = 255;
+
+/// Places in the COMMIDs of a frame.
+pub mod commid {
+    pub const OWN: usize = 0;
+    pub const ACKNOWLEDGED: usize = 1;
+}
+
+pub const DATA_MESSAGE: u16 = 1;
+pub const ACKNOWLEDGMENT: u16 = 2;

@@ -1,13 +1,14 @@
 //! The peer behind the C interface: each function has the twin of the same name in ours.
 //! Only the form of answers is settled here; the answers themselves are the peer's.
 
-use crate::interface::{feed_number, field, Answer, Order, Timing};
+use crate::interface::{commid, feed_number, field, Answer, Order, Timing};
+use crate::interface::{ACKNOWLEDGMENT, BROKEN, DATA_MESSAGE, KEPT, NOT_JUDGED};
 use crate::interface::{AHEAD, BEHIND, FEED_INSIDE, FEED_WHOLE, IN_TIME, LATE, NEXT, NO_CLOCK, REPEAT};
-use crate::interface::{BROKEN, KEPT, NOT_JUDGED};
-use crate::interface::{FEED_NUMBERS, FEED_ROOM, FIELDS, LINE, PART, QOS_PARTS, RULES};
+use crate::interface::{COMMIDS, FEED_NUMBERS, FEED_ROOM, FIELDS, LINE, PART, QOS_PARTS, RULES};
 use peer::crc::{Division, Sum};
 use peer::envelope::{self, Draft, Fields, Integrity, Kind, Lateness, Qos, Sequence, Service, Unread};
 use peer::feed::{self, Feed, Standing, Taken};
+use peer::frame::{self, Body, Unwrapped};
 use peer::golden::{self, Refusal, Step};
 use peer::judge::{self, Verdict};
 
@@ -263,4 +264,40 @@ pub fn feed_restart(kept: &mut [u8; FEED_ROOM], numbers: &mut [u64; FEED_NUMBERS
 
 pub fn feed_message(kept: &[u8; FEED_ROOM], numbers: &[u64; FEED_NUMBERS]) -> Answer {
     done_with(stored(kept, numbers).message().map_or(0, <[u8]>::len))
+}
+
+fn frame_refused(refusal: frame::Refusal) -> Answer {
+    let (number, reading) = refusal.numbers();
+    Answer { number, reading, ..Answer::default() }
+}
+
+pub fn unwrap(frame: &[u8], commids: &mut [u32; COMMIDS], fields: &mut [u64; FIELDS]) -> Answer {
+    let Unwrapped { commid, body } = match frame::unwrap::<Division>(frame) {
+        Ok(unwrapped) => unwrapped,
+        Err(refusal) => return frame_refused(refusal),
+    };
+    commids[commid::OWN] = commid;
+    match body {
+        Body::Message { place, fields: read } => {
+            commids[commid::ACKNOWLEDGED] = 0;
+            *fields = numbered(&read);
+            Answer { count: DATA_MESSAGE, ..done_with(place.len()) }
+        }
+        Body::Acknowledged(acknowledged) => {
+            commids[commid::ACKNOWLEDGED] = acknowledged;
+            Answer { count: ACKNOWLEDGMENT, ..Answer::default() }
+        }
+    }
+}
+
+pub fn wrap(message: &[u8], commid: u32, buffer: &mut [u8]) -> Answer {
+    frame::wrap::<Division>(message, commid, buffer).map_or_else(frame_refused, done_with)
+}
+
+pub fn acknowledge(commid: u32, acknowledged: u32, buffer: &mut [u8]) -> Answer {
+    frame::acknowledge(commid, acknowledged, buffer).map_or_else(frame_refused, done_with)
+}
+
+pub fn frame_first(capture: &[u8]) -> usize {
+    frame::first(capture)
 }

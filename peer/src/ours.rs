@@ -1,7 +1,8 @@
 //! The proved library through its C archive: one declaration and one safe function for each symbol.
 //! Slices go in with their lengths, so what the C header asks of a caller always holds.
 
-use crate::interface::{Answer, Order, Timing, FEED_NUMBERS, FEED_ROOM, FIELDS, LINE, PART, QOS_PARTS, RULES};
+use crate::interface::{Answer, Order, Timing};
+use crate::interface::{COMMIDS, FEED_NUMBERS, FEED_ROOM, FIELDS, LINE, PART, QOS_PARTS, RULES};
 
 extern "C" {
     fn morlewen_crc(bytes: *const u8, length: usize) -> u32;
@@ -51,6 +52,10 @@ extern "C" {
     fn morlewen_feed_end(numbers: *mut u64) -> u64;
     fn morlewen_feed_restart(kept: *mut u8, numbers: *mut u64);
     fn morlewen_feed_message(kept: *const u8, numbers: *const u64) -> u64;
+    fn morlewen_unwrap(frame: *const u8, length: usize, commids: *mut u32, fields: *mut u64) -> u64;
+    fn morlewen_wrap(message: *const u8, length: usize, commid: u32, buffer: *mut u8, room: usize) -> u64;
+    fn morlewen_acknowledge(commid: u32, acknowledged: u32, buffer: *mut u8, room: usize) -> u64;
+    fn morlewen_frame_first(capture: *const u8, length: usize) -> usize;
 }
 
 /// Takes an answer word apart.
@@ -198,4 +203,24 @@ pub fn feed_restart(kept: &mut [u8; FEED_ROOM], numbers: &mut [u64; FEED_NUMBERS
 pub fn feed_message(kept: &[u8; FEED_ROOM], numbers: &[u64; FEED_NUMBERS]) -> Answer {
     // SAFETY: the arrays have the room that a feed asks for.
     unpack(unsafe { morlewen_feed_message(kept.as_ptr(), numbers.as_ptr()) })
+}
+
+pub fn unwrap(frame: &[u8], commids: &mut [u32; COMMIDS], fields: &mut [u64; FIELDS]) -> Answer {
+    // SAFETY: the slice is whole, and the two arrays have the room that unwrapping asks for.
+    unpack(unsafe { morlewen_unwrap(frame.as_ptr(), frame.len(), commids.as_mut_ptr(), fields.as_mut_ptr()) })
+}
+
+pub fn wrap(message: &[u8], commid: u32, buffer: &mut [u8]) -> Answer {
+    // SAFETY: each pointer stands with the length of its own slice.
+    unpack(unsafe { morlewen_wrap(message.as_ptr(), message.len(), commid, buffer.as_mut_ptr(), buffer.len()) })
+}
+
+pub fn acknowledge(commid: u32, acknowledged: u32, buffer: &mut [u8]) -> Answer {
+    // SAFETY: the pointer and the length are of one slice.
+    unpack(unsafe { morlewen_acknowledge(commid, acknowledged, buffer.as_mut_ptr(), buffer.len()) })
+}
+
+pub fn frame_first(capture: &[u8]) -> usize {
+    // SAFETY: the pointer and the length are of one slice.
+    unsafe { morlewen_frame_first(capture.as_ptr(), capture.len()) }
 }

@@ -46,6 +46,10 @@ pub fn run_line(
 a sum @Am =#A $B
 b read @Am =?k0 accepted type #A version #B flags #C number #D time #E ?F0 unaddressed ?F1 ttl #G qos #H source #I #J [ &IJ ~] destination #K #L [ &KL ~] ?k0 body #M #N [ &MN ~] integrity ?O0 none ?O1 crc $P ?O2 application $P ?k2 refused #n
 g judge @Am =1 ?A0 kept ?A1 broken ?A2 not judged ? 2 ?B0 kept ?B1 broken ?B2 not judged ? 3 ?C0 kept ?C1 broken ?C2 not judged ? 4 ?D0 kept ?D1 broken ?D2 not judged ? 5 ?E0 kept ?E1 broken ?E2 not judged ? 6 ?F0 kept ?F1 broken ?F2 not judged ? 7 ?G0 kept ?G1 broken ?G2 not judged ?r0 none broken ?r1234567 lowest #r
+h unwrap @Am =?c1 data commid #A size #v ?c2 acknowledgment commid #A of #B ?k3 refused #n #r |?c1 accepted type #A version #B flags #C number #D time #E ?F0 unaddressed ?F1 ttl #G qos #H source #I #J [ &IJ ~] destination #K #L [ &KL ~] ?c1 body #M #N [ &MN ~] integrity ?O0 none ?O1 crc $P ?O2 application $P
+i first @Am =#A of #B
+V wrap commid #A4 room #Lr of @Bm =?k01 wrote #v ?k3 refused #n #r ? [ ! ~]
+U acknowledge commid #A4 of #B4 room #Lr =?k01 wrote #v ?k3 refused #n #r ? [ ! ~]
 W write type #A2 version #B1 flags #C1 number #D4 time #E4 ?unaddressed | ttl #G2 qos #H2 . source @Iw/destination destination @Jw/body body @Kw/integrity integrity #K4 room #Lr =?k01 wrote #v ?k3 refused #n ? [ ! ~]
 X rewrite room #Lr of @Am =?k01 wrote #v ?k2 unread #n ?k3 refused #n ? [ ! ~]
 c qos ?join #A1 #B1 #C1 #D1 #E1 | split #A2 . =?k01 #v ?k3 refused #n ?F1 #A #B #C #D

@@ -1,5 +1,7 @@
-// The commands about sums, messages, the judge, QoS, lateness and sequence: each is one call of the library, and its answer is told by the row's template.
+// The commands about sums, messages, the judge, frames, QoS, lateness and sequence: each is one call of the library, and its answer is told by the row's template.
 // Rests on the crate `exports`.
+use crate::frame_lines::measured;
+use crate::frame_lines::unwrap_line;
 use crate::numbers::BEGUN;
 use crate::numbers::CHOICE;
 use crate::numbers::END;
@@ -18,6 +20,8 @@ use crate::words::between;
 use exports::envelopes::morlewen_read;
 use exports::envelopes::morlewen_rewrite;
 use exports::envelopes::morlewen_write;
+use exports::frames::morlewen_acknowledge;
+use exports::frames::morlewen_wrap;
 use exports::goldens::morlewen_make;
 use exports::qos::morlewen_qos_join;
 use exports::qos::morlewen_qos_split;
@@ -35,8 +39,13 @@ const ROOM: usize = 1_024;
 
 pub fn envelope_line(code: u8, template: &[u8], numbers: &mut [u64; 16], memory: &[u8; MEMORY]) {
     let message = between(memory, place_at(numbers, BEGUN), place_at(numbers, END));
-    let word = envelope_answer(code, message, numbers);
-    say(template, word, numbers, message, message);
+    match code {
+        b'h' => unwrap_line(template, numbers, message),
+        _ => {
+            let word = envelope_answer(code, message, numbers);
+            say(template, word, numbers, message, message);
+        }
+    }
 }
 
 fn envelope_answer(code: u8, message: &[u8], numbers: &mut [u64; 16]) -> u64 {
@@ -46,6 +55,7 @@ fn envelope_answer(code: u8, message: &[u8], numbers: &mut [u64; 16]) -> u64 {
         b'c' => qos(numbers),
         b'd' => late(numbers),
         b'g' => judged(message, numbers),
+        b'i' => measured(message, numbers),
         _ => morlewen_sequence(four_at(numbers, 0), four_at(numbers, 1)),
     }
 }
@@ -61,6 +71,8 @@ pub fn lent_line(code: u8, template: &[u8], numbers: &[u64; 16], memory: &[u8; M
 fn lent_answer(code: u8, numbers: &[u64; 16], memory: &[u8; MEMORY], lent: &mut [u8]) -> u64 {
     let message = between(memory, place_at(numbers, BEGUN), place_at(numbers, END));
     match code {
+        b'U' => morlewen_acknowledge(four_at(numbers, 0), four_at(numbers, 1), lent),
+        b'V' => morlewen_wrap(message, four_at(numbers, 0), lent),
         b'W' => written(numbers, memory, lent),
         b'X' => morlewen_rewrite(message, lent),
         _ => morlewen_make(message, lent),

@@ -6,6 +6,7 @@ mod commands;
 mod envelope_lines;
 mod feed_lines;
 mod file_lines;
+mod frame_lines;
 mod golden_lines;
 mod numbers;
 mod printing;

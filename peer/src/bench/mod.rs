@@ -2,6 +2,7 @@
 //! Only ratios are told, since bare times say more about the machine than about the code.
 
 mod feeds;
+mod frames;
 mod judges;
 mod works;
 
@@ -51,7 +52,8 @@ const COLUMNS: [Column; 4] =
     [(Side::Ours, Side::Table), (Side::Ours, Side::Division), (Side::Ours, Side::Zlib), (Side::Ours, Side::Libdeflate)];
 /// Those that are there where the library before a change is given.
 const COLUMNS_BEFORE: [Column; 2] = [(Side::Ours, Side::Before), (Side::Before, Side::Table)];
-const FEED_COLUMNS: [Column; 2] = [(Side::Ours, Side::Table), (Side::Ours, Side::OurReading)];
+/// For the feed and for frames.
+const COLUMNS_READING: [Column; 2] = [(Side::Ours, Side::Table), (Side::Ours, Side::OurReading)];
 /// The judge finds its CRC by division on both sides; the reading beside it does not.
 const JUDGE_COLUMNS: [Column; 2] = [(Side::Ours, Side::Division), (Side::Ours, Side::OurReading)];
 
@@ -69,6 +71,8 @@ pub fn command() -> ExitCode {
     feeding();
     println!();
     judging();
+    println!();
+    framing();
     println!();
     println!("Below 1, the first named is quicker. Median of {ROUNDS} rounds; in each round the sides take turns.");
     ExitCode::SUCCESS
@@ -104,12 +108,12 @@ fn calls() {
 
 /// A stream through the feed, in pieces; and the same messages read when each is whole already.
 fn feeding() {
-    head(&FEED_COLUMNS);
+    head(&COLUMNS_READING);
     for (flags, kind) in KINDS {
         for length in [21, 153, LONGEST_MESSAGE] {
             let stream = feeds::stream(flags, length);
             for piece in [1, 64, 1_500, 65_536] {
-                feeds::feeding(kind, &stream, length, piece).measure(&FEED_COLUMNS);
+                feeds::feeding(kind, &stream, length, piece).measure(&COLUMNS_READING);
             }
         }
     }
@@ -124,6 +128,19 @@ fn judging() {
         }
     }
     judges::judging("CRC", &works::message(8, 65_536, 1)).measure(&JUDGE_COLUMNS);
+}
+
+/// A message wrapped and unwrapped, and the same message read.
+fn framing() {
+    head(&COLUMNS_READING);
+    for (flags, kind) in KINDS {
+        for length in [21, 153, LONGEST_MESSAGE] {
+            let message = works::message(flags, length, 1);
+            let frame = frames::framed(&message);
+            frames::wrapping(kind, &message).measure(&COLUMNS_READING);
+            frames::unwrapping(kind, &frame).measure(&COLUMNS_READING);
+        }
+    }
 }
 
 impl Row<'_> {

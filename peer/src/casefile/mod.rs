@@ -5,6 +5,7 @@ mod arguments;
 mod complaint;
 mod envelopes;
 mod feeds;
+mod frames;
 mod goldens;
 mod printed;
 mod spoiled;
@@ -32,7 +33,7 @@ struct Worked {
 
 type Command = fn(&mut Words, &mut Worked) -> Result<String, Complaint>;
 
-const COMMANDS: [(&str, Command); 23] = [
+const COMMANDS: [(&str, Command); 27] = [
     ("sum", |words, _| envelopes::sum(words)),
     ("read", |words, _| envelopes::read(words)),
     ("judge", |words, _| envelopes::judge(words)),
@@ -56,6 +57,10 @@ const COMMANDS: [(&str, Command); 23] = [
     ("piece", |words, worked| feeds::piece(words, &mut worked.feed)),
     ("stream", |words, worked| feeds::stream(words, &mut worked.feed)),
     ("end", |words, worked| feeds::end(words, &mut worked.feed)),
+    ("unwrap", |words, _| frames::unwrap(words)),
+    ("wrap", |words, _| frames::wrap(words)),
+    ("acknowledge", |words, _| frames::acknowledge(words)),
+    ("first", |words, _| frames::first(words)),
 ];
 
 /// What a file of cases prints.

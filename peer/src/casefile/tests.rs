@@ -193,6 +193,59 @@ fn comparisons_and_new_records_answer_as_told() {
     ]);
 }
 
+#[test]
+fn frame_commands_answer_as_told() {
+    let frame = "02 02 00000007 01 02 00000015 041770010000000000000001 00*9 03";
+    let wrote = "0202000000070102000000150417700100000000000000010000000000000000";
+    each(&[
+        (
+            &format!("unwrap M: {frame}"),
+            &format!("unwrap M: data commid 7 size 21 {ACCEPTED} unaddressed body 17 0 [] integrity none"),
+        ),
+        ("unwrap it: 0202ffffffff0202 00000004 00000007 03", "unwrap it: acknowledgment commid 4294967295 of 7"),
+        ("unwrap nothing:", "unwrap nothing: refused 61 0"),
+        ("unwrap 66: 0202 00000009 0202 00000004 00000007 02", "unwrap 66: refused 66 0"),
+        ("unwrap no body: 0202 00000007 0102 00000000 03", "unwrap no body: refused 67 1"),
+        (&format!("wrap M: commid 7 room 36 of {M}"), &format!("wrap M: wrote 34 [{wrote}0003 ee*2]")),
+        (&format!("wrap M, just: commid 7 room 34 of {M}"), &format!("wrap M, just: wrote 34 [{wrote}00 03*1]")),
+        (&format!("wrap short: commid 7 room 33 of {M}"), "wrap short: refused 68 0 [ee*33]"),
+        ("wrap 67 before 68: commid 7 room 0 of 05 00*20", "wrap 67 before 68: refused 67 2 []"),
+        ("wrap nothing: commid 0 room 3 of", "wrap nothing: refused 67 1 [ee*3]"),
+        (
+            "acknowledge it: commid 4294967295 of 16909060 room 18",
+            "acknowledge it: wrote 17 [0202ffffffff0202000000040102030403 ee*1]",
+        ),
+        ("acknowledge short: commid 0 of 0 room 16", "acknowledge short: refused 68 0 [ee*16]"),
+        ("first nothing:", "first nothing: 0 of 0"),
+        (&format!("first of two: {frame} {frame}"), "first of two: 34 of 68"),
+        ("first cut: 0202 00000007 0102 00000015 04", "first cut: 13 of 13"),
+        ("first 12: 00*12", "first 12: 12 of 12"),
+        ("first 14: 00*14", "first 14: 13 of 14"),
+    ]);
+}
+
+#[test]
+fn frame_lines_that_are_not_understood_are_told() {
+    let over = "a number from 0 to 4294967295 expected";
+    each(&[
+        ("unwrap", "line 1, column 7: a name and a colon expected"),
+        ("unwrap u: 02 2", "line 2, column 14: bytes expected"),
+        ("unwrap u: 00*300001", "line 3, column 11: at most 300000 bytes expected"),
+        ("wrap w: room 3 of 00", "line 4, column 9: the word commid expected"),
+        ("wrap w: commid 4294967296 room 3 of 00", &format!("line 5, column 16: {over}")),
+        ("wrap w: commid 1 of 00", "line 6, column 18: the word room expected"),
+        ("wrap w: commid 1 room 1025 of 00", "line 7, column 23: a number from 0 to 1024 expected"),
+        ("wrap w: commid 1 room 3 00", "line 8, column 25: the word of expected"),
+        ("acknowledge a: of 1 commid 1 room 17", "line 9, column 16: the word commid expected"),
+        ("acknowledge a: commid 1 of room 17", &format!("line 10, column 28: {over}")),
+        ("acknowledge a: commid 1 room 17 of 1", "line 11, column 25: the word of expected"),
+        ("acknowledge a: commid 1 of 1", "line 12, column 29: the word room expected"),
+        ("acknowledge a: commid 1 of 1 room 17 of", "line 13, column 38: the end of the line expected"),
+        ("first f: x", "line 14, column 10: bytes expected"),
+        ("First f: 00", "line 15, column 1: a command expected"),
+    ]);
+}
+
 const NEW: &str = "count 0 inside kept [00*510]";
 /// M among the bytes kept: behind its message number it is zeros, as a new feed is.
 const M_KEPT: &str = "kept [041770010000000000000001 00*498]";

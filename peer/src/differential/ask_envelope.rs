@@ -5,7 +5,7 @@ use super::ask_golden::find;
 use super::lent::{array, hex};
 use super::run::Run;
 use super::tally::{Operation, Outcome};
-use super::{ask_judge, inputs};
+use super::{ask_frame, ask_judge, inputs};
 use crate::interface::{field, Answer, Order, Timing, FIELDS, QOS_PARTS};
 use crate::interface::{IN_TIME, LATE};
 use crate::{mirror, ours};
@@ -29,6 +29,7 @@ pub fn message(run: &mut Run, message: &[u8]) -> Answer {
     sum(run, message);
     let (answer, fields) = read(run, message);
     ask_judge::beside_reading(run, message, answer);
+    ask_frame::message(run, message, answer);
     rewritten(run, message, answer);
     made(run, message, answer);
     if answer.number == 0 {

@@ -4,7 +4,7 @@
 use super::ask_feed::{self, Feeds};
 use super::lent::hex;
 use super::run::Run;
-use super::{ask_envelope, ask_golden, ask_judge, feed_inputs, inputs, judge_inputs};
+use super::{ask_envelope, ask_frame, ask_golden, ask_judge, feed_inputs, frame_inputs, inputs, judge_inputs};
 use crate::interface::Timing;
 use peer::crc::Division;
 use peer::envelope::{COMMON, FIELD, SHORTEST};
@@ -18,13 +18,17 @@ pub struct Family {
 }
 
 /// The quick ones first, so that each operation is met early.
-pub const FAMILIES: [Family; 15] = [
+pub const FAMILIES: [Family; 19] = [
     Family { name: "lateness", weight: 50, one: lateness },
     Family { name: "sequence", weight: 50, one: sequence },
     Family { name: "QoS joins", weight: 40, one: qos_join },
     Family { name: "feeds of any content", weight: 60, one: any_feed },
     Family { name: "streams cut at random", weight: 8, one: stream },
     Family { name: "messages judged with several faults", weight: 150, one: judged },
+    Family { name: "acknowledgments", weight: 40, one: acknowledgment },
+    Family { name: "damaged frames", weight: 150, one: damaged_frame },
+    Family { name: "frames of any bytes", weight: 60, one: any_frame },
+    Family { name: "captures of several frames", weight: 20, one: capture },
     Family { name: "spoiled orders", weight: 90, one: spoiled_order },
     Family { name: "comparisons", weight: 90, one: comparison },
     Family { name: "golden files of 0 to 8 records", weight: 60, one: short_file },
@@ -191,4 +195,27 @@ fn any_feed(run: &mut Run) {
 fn judged(run: &mut Run) {
     let message = judge_inputs::faulty(&mut run.random);
     ask_judge::message(run, &message);
+}
+
+fn acknowledgment(run: &mut Run) {
+    let (own, acknowledged) = (run.random.number(), run.random.number());
+    ask_frame::acknowledgment(run, own, acknowledged);
+}
+
+fn damaged_frame(run: &mut Run) {
+    let frame = frame_inputs::damaged(&mut run.random);
+    ask_frame::frame(run, &frame);
+}
+
+fn any_frame(run: &mut Run) {
+    let frame = frame_inputs::any(&mut run.random);
+    ask_frame::frame(run, &frame);
+}
+
+/// Good frames end to end, and behind them nothing, a frame that is damaged or cut, or any bytes.
+fn capture(run: &mut Run) {
+    let random = &mut run.random;
+    let frames: Vec<Vec<u8>> = (0..random.up_to(6)).map(|_| frame_inputs::good(random)).collect();
+    let behind = frame_inputs::behind(random);
+    ask_frame::capture(run, &frames, &behind);
 }

@@ -3,13 +3,16 @@
 
 mod ask_envelope;
 mod ask_feed;
+mod ask_frame;
 mod ask_golden;
 mod ask_judge;
 mod drawn;
 mod feed_inputs;
 mod fixed;
 mod fixed_feed;
+mod fixed_frame;
 mod fixed_judge;
+mod frame_inputs;
 mod inputs;
 mod judge_inputs;
 mod lent;
@@ -51,6 +54,7 @@ pub fn command(words: &[String]) -> Option<ExitCode> {
     fixed::short(&mut run);
     fixed_feed::short(&mut run);
     fixed_judge::short(&mut run);
+    fixed_frame::short(&mut run);
     drawn(&mut run, options.count);
     fixed::long(&mut run);
     println!("answers, with how often each came:");
@@ -59,12 +63,15 @@ pub fn command(words: &[String]) -> Option<ExitCode> {
     for (family, inputs) in run.families() {
         println!("  {family}: {inputs}");
     }
-    let missing = run.tally.missing();
+    let (missing, impossible) = (run.tally.missing(), run.tally.impossible());
     for (operation, outcome) in &missing {
         println!("NEVER CAME UP: {operation:?} {outcome}");
     }
+    for (operation, outcome) in &impossible {
+        println!("CAME UP AND MUST NOT: {operation:?} {outcome}");
+    }
     println!("differential: {} inputs, 0 disagreements (seed {})", run.inputs(), options.seed);
-    Some(if missing.is_empty() { ExitCode::SUCCESS } else { ExitCode::FAILURE })
+    Some(if missing.is_empty() && impossible.is_empty() { ExitCode::SUCCESS } else { ExitCode::FAILURE })
 }
 
 /// Draws what is still wanted after the short fixed inputs, each family by its weight.

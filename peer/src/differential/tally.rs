@@ -1,7 +1,8 @@
 //! How often each operation gave each answer, and which answers a full run must have seen.
 //! 32 is left out: no accepted message is a proper beginning of another.
 
-use crate::interface::{Answer, AHEAD, BEHIND, BROKEN, KEPT, NEXT, NOT_JUDGED, REPEAT, RULES};
+use crate::interface::{Answer, RULES};
+use crate::interface::{ACKNOWLEDGMENT, AHEAD, BEHIND, BROKEN, DATA_MESSAGE, KEPT, NEXT, NOT_JUDGED, REPEAT};
 use std::collections::BTreeMap;
 use std::fmt;
 
@@ -28,6 +29,10 @@ pub enum Operation {
     FeedEnd,
     FeedRestart,
     FeedMessage,
+    Unwrap,
+    Wrap,
+    Acknowledge,
+    First,
 }
 
 #[derive(Clone, Copy, Debug, PartialEq, Eq, PartialOrd, Ord)]
@@ -80,6 +85,8 @@ fn word(operation: Operation, answer: Answer) -> &'static str {
         (Operation::Sequence, _, AHEAD) => "ahead",
         (Operation::Sequence, _, BEHIND) => "behind",
         (Operation::Judge, ..) => "none broken",
+        (Operation::Unwrap, _, DATA_MESSAGE) => "data message",
+        (Operation::Unwrap, _, ACKNOWLEDGMENT) => "acknowledgment",
         _ => "done",
     }
 }
@@ -109,13 +116,19 @@ impl Tally {
     pub fn missing(&self) -> Vec<(Operation, Outcome)> {
         required().into_iter().filter(|key| !self.came.contains_key(key)).collect()
     }
+
+    /// The answers that came up and must not: no message is longer than a frame can state.
+    pub fn impossible(&self) -> Vec<(Operation, Outcome)> {
+        self.came.keys().filter(|(_, outcome)| matches!(outcome, Outcome::Refused(69))).copied().collect()
+    }
 }
 
 fn required() -> Vec<(Operation, Outcome)> {
+    use Operation::{Acknowledge, First, Unwrap, Wrap};
     use Operation::{Check, Compare, Crc, Distance, Find, Judge, Lateness, Line, Make};
     use Operation::{FeedEnd, FeedMessage, FeedRestart, FeedTake};
     use Operation::{QosJoin, QosSplit, Read, Records, Rewrite, Sequence, Step, Write};
-    let table: [(Operation, &[&'static str], &[u8]); 21] = [
+    let table: [(Operation, &[&'static str], &[u8]); 25] = [
         (Crc, &["done"], &[]),
         (Read, &["done"], &[1, 2, 3, 4, 5, 6, 7]),
         (Write, &["done"], &[11, 12, 13, 14, 15]),
@@ -137,6 +150,10 @@ fn required() -> Vec<(Operation, Outcome)> {
         (FeedEnd, &["done"], &[1, 2, 3, 4, 5, 6, 7, 51, 52]),
         (FeedRestart, &["done"], &[]),
         (FeedMessage, &["nothing", "message"], &[]),
+        (Unwrap, &["data message", "acknowledgment"], &[61, 62, 63, 64, 65, 66, 67]),
+        (Wrap, &["done"], &[67, 68]),
+        (Acknowledge, &["done"], &[68]),
+        (First, &["as stated", "shorter than stated", "fewer than 13"], &[]),
     ];
     let mut required: Vec<_> = judged().into_iter().map(|outcome| (Judge, outcome)).collect();
     for (operation, words, numbers) in table {
@@ -150,7 +167,7 @@ fn required() -> Vec<(Operation, Outcome)> {
 fn refusals(number: u8) -> Vec<Outcome> {
     match number {
         25 => (2..=7).map(|reading| Outcome::Unread(number, reading)).collect(),
-        31 | 34 => (1..=7).map(|reading| Outcome::Unread(number, reading)).collect(),
+        31 | 34 | 67 => (1..=7).map(|reading| Outcome::Unread(number, reading)).collect(),
         _ => vec![Outcome::Refused(number)],
     }
 }

@@ -10,18 +10,13 @@ use crate::random::Random;
 type Drawn = (String, Vec<u8>);
 
 pub fn judges(random: &mut Random) -> Vec<String> {
-    let draws: [fn(&mut Random) -> Drawn; 7] = [
+    let draws: [fn(&mut Random) -> Drawn; 6] = [
         |random| ("good, addressed".to_string(), good(random, true)),
         |random| ("good, unaddressed".to_string(), good(random, false)),
-        cut,
         lengthened,
         bad_heading,
         |random| twice(random, Damage::Addresses, Damage::Integrity),
-        |random| {
-            let first = random.up_to(DAMAGES.len() - 2);
-            let second = random.between(first + 1, DAMAGES.len() - 1);
-            twice(random, DAMAGES[first], DAMAGES[second])
-        },
+        |random| if random.once_in(2) { cut(random) } else { any_two(random) },
     ];
     let mut lines = vec!["judge no bytes:".to_string()];
     for draw in draws {
@@ -48,6 +43,12 @@ fn cut(random: &mut Random) -> Drawn {
 fn lengthened(random: &mut Random) -> Drawn {
     let more = random.between(1, 9);
     (format!("{more} bytes behind it"), [good(random, true), random.bytes(more)].concat())
+}
+
+fn any_two(random: &mut Random) -> Drawn {
+    let first = random.up_to(DAMAGES.len() - 2);
+    let second = random.between(first + 1, DAMAGES.len() - 1);
+    twice(random, DAMAGES[first], DAMAGES[second])
 }
 
 fn twice(random: &mut Random, first: Damage, second: Damage) -> Drawn {

@@ -12,7 +12,7 @@ pub fn comments(random: &mut Random) -> Vec<String> {
 
 pub fn commands_and_names(random: &mut Random) -> Vec<String> {
     let spaces = " ".repeat(random.up_to(3));
-    let command = random.pick(&["sum", "read", "judge", "walk", "check", "list"]);
+    let command = random.pick(&["sum", "read", "judge", "unwrap", "walk", "check", "list"]);
     vec![
         format!("{spaces}{} no such command: 00", random.pick(&["reed", "Sum", "checks", "wal", "files", "0"])),
         format!("{spaces}{command} a name without its colon"),
@@ -33,6 +33,8 @@ pub fn words(random: &mut Random) -> Vec<String> {
         format!("rewrite nothing behind the room: room {}{spaces}", random.up_to(99)),
         format!("compare no message: record 0 list {number} 2*{}{spaces}", random.up_to(20)),
         format!("sequence no second number: from {number} {other} {number}"),
+        format!("wrap no COMMID: room 600 of {number}"),
+        format!("acknowledge the room before the other COMMID: commid {number} room 17 of 1"),
     ];
     lines.extend(some(random, 1, others));
     lines
@@ -65,8 +67,10 @@ pub fn numbers(random: &mut Random) -> Vec<String> {
         format!("file zeros {}", 66_561 + over),
         format!("file change {} 00", 66_561 + over),
         format!("compare a bad list: record 0 list 1 {list} with 00"),
+        format!("wrap a COMMID too large: commid 429496729{} room 34 of 00", random.between(6, 9)),
+        format!("acknowledge a room too large: commid 1 of 2 room {}", 1_025 + over),
     ];
-    lines.extend(some(random, 4, others));
+    lines.extend(some(random, 3, others));
     lines
 }
 
@@ -75,7 +79,8 @@ pub fn bytes(random: &mut Random) -> Vec<String> {
     let over = random.between(1, 9);
     let fields = "type 1 version 1 flags 0 number 1 time 1 unaddressed";
     let long = format!("source 41*{} destination body integrity 0 room 0", 600 + over);
-    let (one, other) = (random.pick(&["sum", "judge", "piece"]), random.pick(&["sum", "judge", "piece"]));
+    let commands = ["sum", "judge", "piece", "unwrap", "first"];
+    let (one, other) = (random.pick(&commands), random.pick(&commands));
     let mut lines = vec![
         format!("{one} not bytes: 00 {word} 00"),
         format!("{other} over 300,000 bytes: 00*300000 '' 41*{over} 00"),
@@ -88,21 +93,21 @@ pub fn bytes(random: &mut Random) -> Vec<String> {
         format!("file record 04 00*{}", 509 + over),
         format!("file change 0 00*{}", 66_560 + over),
     ];
-    lines.extend(some(random, 2, others));
+    lines.extend(some(random, 1, others));
     lines
 }
 
 pub fn left_over(random: &mut Random) -> Vec<String> {
     let command = random.pick(&["check", "walk", "list", "restart", "end"]);
     let word = random.pick(&["now", "0", "#", ":"]);
-    let mut lines = vec![format!("{command} a word left over:  {word}")];
-    let others = vec![
+    let lines = vec![
+        format!("{command} a word left over:  {word}"),
         format!("qos a sixth number: join 1 2 3 4 5 {}", random.byte()),
         format!("file new {word}"),
         format!("flips two records: record 0 {word}"),
+        format!("acknowledge a word behind the room: commid 1 of 2 room 17 {word}"),
     ];
-    lines.extend(some(random, 1, others));
-    lines
+    some(random, 1, lines)
 }
 
 /// A long line that is right but for one word: another stands there, or the line ends with it.
@@ -115,5 +120,6 @@ pub fn spoiled_writes(random: &mut Random) -> Vec<String> {
     let place = random.up_to(words.len() - 1);
     let spoiled = [&words[..place], &["x"], &words[place + 1..]].concat().join(" ");
     let cut = random.up_to(words.len() - 1);
-    vec![format!("{name}{spoiled}"), format!("write cut short: {}", words[..cut].join(" "))]
+    let lines = vec![format!("{name}{spoiled}"), format!("write cut short: {}", words[..cut].join(" "))];
+    some(random, 1, lines)
 }
