@@ -17,6 +17,9 @@ pub enum Command {
     Judge,
     Sum,
     Make,
+    Unwrap,
+    Wrap,
+    Acknowledge,
     // Standard input, alone or beside a golden file.
     Watch,
     WatchBeside,
@@ -86,6 +89,8 @@ fn words_taken(command: Command) -> usize {
     match command {
         Command::Find => 3,
         Command::Compare => 3,
+        Command::Wrap => 2,
+        Command::Acknowledge => 2,
         Command::Help => 0,
         _ => 1,
     }
@@ -125,6 +130,19 @@ fn message_command_of(word: &[u8]) -> Command {
     }
     if alike(word, b"help") {
         return Command::Help;
+    }
+    frame_command_of(word)
+}
+
+fn frame_command_of(word: &[u8]) -> Command {
+    if alike(word, b"unwrap") {
+        return Command::Unwrap;
+    }
+    if alike(word, b"wrap") {
+        return Command::Wrap;
+    }
+    if alike(word, b"acknowledge") {
+        return Command::Acknowledge;
     }
     Command::None
 }

@@ -9,7 +9,7 @@ use libc::STDOUT_FILENO;
 
 pub fn help() -> Status {
     text(
-        b"emp tells what golden files and EMP messages hold. Files are opened for reading only.
+        b"emp tells what golden files, EMP messages and Class D frames hold. Files are opened for reading only.
 
 emp list GOLDEN                  every record: its type, number and length, or its refusal
 emp check GOLDEN                 the count of records, or the first bad one
@@ -20,12 +20,18 @@ emp judge MESSAGE                every rule of reading by itself: kept, broken o
                                  then what the first reader says, as emp read does
 emp sum FILE                     the CRC of all bytes of a file
 emp make MESSAGE                 the record of 512 bytes that holds a message, to standard output
+emp unwrap FRAME                 a frame: what it is, its COMMIDs, and its message as read tells it; a capture,
+                                 which is frames end to end: a line for each, up to the first refused
+emp wrap COMMID MESSAGE          the data message, with that COMMID, that carries a message, to standard output
+emp acknowledge COMMID ACKNOWLEDGED
+                                 the acknowledgment of the COMMID ACKNOWLEDGED, to standard output;
+                                 COMMID is the acknowledgment's own
 emp watch [GOLDEN]               every message of standard input the moment its last byte is in, and the record
                                  of its type and number: same, or in how many places the two differ
 emp help                         this
 
-GOLDEN, RADIO, MESSAGE and FILE are names of files, from which at most 65536 bytes are taken.
-TYPE, NUMBER and RECORD are numbers in digits; the first record is 0.
+GOLDEN, RADIO, MESSAGE, FRAME and FILE are names of files, from which at most 65536 bytes are taken.
+TYPE, NUMBER, RECORD, COMMID and ACKNOWLEDGED are numbers in digits; the first record is 0.
 watch checks GOLDEN before it reads a byte, tells of each message how its number follows the one before, and ends
 at the first refusal, with status 1, or at the end of standard input, with status 0 also where messages differ.
 
@@ -41,6 +47,7 @@ Refusals",
     golden_refusals();
     radio_refusals();
     stream_refusals();
+    frame_refusals();
     end_answer(Status::Done)
 }
 
@@ -74,6 +81,18 @@ fn radio_refusals() {
 fn stream_refusals() {
     refusal(51);
     refusal(52);
+}
+
+fn frame_refusals() {
+    refusal(61);
+    refusal(62);
+    refusal(63);
+    refusal(64);
+    refusal(65);
+    refusal(66);
+    refusal(67);
+    refusal(68);
+    refusal(69);
 }
 
 fn refusal(n: u8) {

@@ -1,5 +1,5 @@
 // The operator's tool: what a golden file, a message or any other file holds, in plain words. Files are only read.
-// Rests on the crates `sum`, `envelope`, `judge`, `golden` and `feed`, which decide every answer; here it is only told.
+// Rests on the crates `sum`, `envelope`, `judge`, `golden`, `feed` and `frame`, which decide every answer; here it is only told.
 mod arguments;
 mod arrival;
 mod checking;
@@ -7,6 +7,7 @@ mod comparing;
 mod decimal;
 mod files;
 mod finding;
+mod framing;
 mod help;
 mod judging;
 mod layout;
@@ -42,19 +43,28 @@ fn run() -> Status {
         Command::None => Status::Complained,
         Command::Help => help::help(),
         Command::Watch => watching::watch_alone(),
+        Command::Acknowledge => framing::acknowledge_commid(),
         _ => on_file(command),
     }
 }
 
-// The first word after any other command names a file.
+// Any other command names a file.
 fn on_file(command: Command) -> Status {
     let mut buffer = [0u8; ROOM];
-    match take(2, most_for(command), &mut buffer) {
+    match take(file_word(command), most_for(command), &mut buffer) {
         Content::Size(size) => {
             let whole = Part { place: 0, size };
             answer(command, whole.slice(&buffer))
         }
         Content::Untaken => Status::Complained,
+    }
+}
+
+// The first word after the command, but for the COMMID before a message.
+fn file_word(command: Command) -> usize {
+    match command {
+        Command::Wrap => 3,
+        _ => 2,
     }
 }
 
@@ -65,11 +75,13 @@ fn most_for(command: Command) -> usize {
         Command::Judge => MOST,
         Command::Sum => MOST,
         Command::Make => MOST,
+        Command::Unwrap => MOST,
+        Command::Wrap => MOST,
         _ => ROOM,
     }
 }
 
-// The last three take no file, and are answered before.
+// The last four take no file, and are answered before.
 fn answer(command: Command, file: &[u8]) -> Status {
     match command {
         Command::List => listing::list_file(file),
@@ -80,8 +92,11 @@ fn answer(command: Command, file: &[u8]) -> Status {
         Command::Judge => judging::judge_message(file),
         Command::Sum => summing::sum_file(file),
         Command::Make => making::make_record(file),
+        Command::Unwrap => framing::unwrap_file(file),
+        Command::Wrap => framing::wrap_message(file),
         Command::WatchBeside => watching::watch_beside(file),
         Command::Watch => Status::Complained,
+        Command::Acknowledge => Status::Complained,
         Command::Help => Status::Complained,
         Command::None => Status::Complained,
     }

@@ -54,7 +54,12 @@ pub fn stream_refused(fault: Fault) {
     refused(STDOUT_FILENO, fault.number(), NO_READING);
 }
 
-// Where a record is made, standard output is for the record alone.
+pub fn frame_refused(fault: frame::Fault) {
+    let numbers = fault.numbers();
+    refused(STDOUT_FILENO, numbers.number, numbers.reading);
+}
+
+// Where a record or a frame is made, standard output is for it alone.
 pub fn too_long() -> Status {
     not_made(33, NO_READING)
 }
@@ -66,6 +71,11 @@ pub fn unread_for_record(refusal: Refusal) -> Status {
 
 pub fn wrong_buffer() -> Status {
     not_made(35, NO_READING)
+}
+
+pub fn not_wrapped(fault: frame::Fault) -> Status {
+    let numbers = fault.numbers();
+    not_made(numbers.number, numbers.reading)
 }
 
 fn not_made(refusal: u8, reading: u8) -> Status {

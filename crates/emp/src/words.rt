@@ -9,6 +9,7 @@ pub fn words(to: i32, number: u8) {
         1..=7 => words_of_reading(to, number),
         21..=27 => words_of_golden(to, number),
         51..=52 => words_of_stream(to, number),
+        61..=69 => words_of_frame(to, number),
         _ => words_of_radio(to, number),
     }
 }
@@ -77,6 +78,29 @@ fn words_of_stream(to: i32, number: u8) {
     }
 }
 
+fn words_of_frame(to: i32, number: u8) {
+    match number {
+        61 => say(to, b"fewer than 13 bytes, the least that a frame has"),
+        62 => say(to, b"the first byte is not STX"),
+        63 => say(to, b"the protocol version or the message version is not 2"),
+        64 => say(
+            to,
+            b"the type is neither 1, a data message, nor 2, an acknowledgment",
+        ),
+        65 => say(
+            to,
+            b"the data length does not put ETX last, or is not 4 in an acknowledgment",
+        ),
+        66 => say(to, b"the last byte is not ETX"),
+        67 => say(to, b"the message is refused by reading"),
+        68 => say(to, b"the buffer is shorter than the frame"),
+        _ => say(
+            to,
+            b"the message is longer than a data length can state, which cannot occur",
+        ),
+    }
+}
+
 // A field by its place in the order of the envelope's table.
 pub fn field_name(order: u8) {
     match order {
@@ -113,6 +137,9 @@ pub fn form(to: i32, command: Command) {
         Command::Judge => say(to, b"emp judge MESSAGE"),
         Command::Sum => say(to, b"emp sum FILE"),
         Command::Make => say(to, b"emp make MESSAGE"),
+        Command::Unwrap => say(to, b"emp unwrap FRAME"),
+        Command::Wrap => say(to, b"emp wrap COMMID MESSAGE"),
+        Command::Acknowledge => say(to, b"emp acknowledge COMMID ACKNOWLEDGED"),
         Command::Help => say(to, b"emp help"),
         Command::None => say(to, b"emp COMMAND"),
         _ => say(to, b"emp watch [GOLDEN]"),
