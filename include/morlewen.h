@@ -308,7 +308,8 @@ uint64_t morlewen_acknowledge(uint32_t commid, uint32_t acknowledged, uint8_t *b
 
 /* How many bytes at the front of a capture, which has frames end to end, the first frame takes: 13 and its data length; or all of
  * them, where fewer are there than that, or fewer than 13. Nothing else is looked at: morlewen_unwrap of these bytes tells what they
- * are. Of bytes that are there at least one is taken. */
+ * are, and a program that goes through a capture stops where they are refused. Of bytes that are there at least one is taken, of none
+ * none. */
 size_t morlewen_frame_first(const uint8_t *capture, size_t length);
 
 #ifdef __cplusplus
