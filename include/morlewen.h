@@ -1,8 +1,9 @@
 /* Morlewen: EMP envelopes (AAR S-9354), a judge of them, golden files of reference messages, messages as they arrive, and
  * the Class D frames that carry them (AAR S-9356), for C and C++.
  *
- * Link libexports.a (README.md says how it is built). Each function is proved to give the one answer told here, for any
- * input, and to end; none allocates, prints, keeps state or touches a file, so all may be called from several threads.
+ * Link libexports.a (README.md says how it is built). The source of each function is proved to give one answer to any input, and
+ * to end; that the answer is the one told here is tested, against a program written from this header. None allocates, prints,
+ * keeps state or touches a file, so all may be called from several threads. docs/RULES.md has the rules behind the numbers.
  *
  * What the caller owes, since C cannot check it:
  *   - a pointer and the length behind it describe memory that is yours to read (const) or to write, and that nothing
@@ -36,7 +37,8 @@ static inline unsigned morlewen_reading(uint64_t answer) { return (unsigned)(ans
 static inline unsigned morlewen_count(uint64_t answer) { return (unsigned)(answer >> 16 & 0xffff); }
 static inline uint32_t morlewen_value(uint64_t answer) { return (uint32_t)(answer >> 32); }
 
-/* The refusals. Where several apply, the one that stands first here is given; by a feed the one that its bytes settle first. */
+/* The refusals. Where several apply to one message, record or frame, the one that stands first here is given, but by a feed the
+ * one that its bytes settle first. Of several records the first bad one decides, whatever is wrong with those behind it. */
 enum {
     MORLEWEN_DONE = 0,
     /* reading a message */
