@@ -10,6 +10,7 @@ pub mod MakingLaws
 pub mod OnlyLaws
 pub mod WalkLaws
 pub mod CheckedLaws
+pub mod SameLaws
 pub mod DemandLaws
 pub mod KeptLaws
 pub mod MadeLaws

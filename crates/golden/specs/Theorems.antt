@@ -1,4 +1,4 @@
--- What users of a golden file rely on. Each statement is a type here; the proofs stand in proofs/ (WalkLaws, CheckedLaws, MadeLaws, BeginningLaws, FewLaws, KeptLaws, DemandLaws).
+-- What users of a golden file rely on. Each statement is a type here; the proofs stand in proofs/ (WalkLaws, CheckedLaws, SameLaws, MadeLaws, BeginningLaws, FewLaws, KeptLaws, DemandLaws).
 -- `f` and `g` are files, `n` counts records.
 use Prim.Native.Nat.{ℕ, suc, _+_, _-_, _*_, _≤_, _<_}
 use mathlib.Core.Bool.{true, false}
@@ -72,6 +72,14 @@ pub record AllGood (f : List ℕ) (n : ℕ) : Type 0 where
 abbrev pub CheckedAreGood : Type 0
 CheckedAreGood = (f : List ℕ) (n : ℕ) → checking f ≡ counted n → AllGood f n
 
+-- where it refuses a file, the record that it names is bad by that refusal and all before it are good; or it is no golden file
+pub data FirstBad (f : List ℕ) : ℕ → Refused → Type 0 where
+  not-a-file : badFile f ≡ true → FirstBad f 0 (plainly 21)
+  bad-record : (n : ℕ) (r : Refused) → badFile f ≡ false → n < countOf f → judgedAt f n ≡ bad r → ((i : ℕ) → i < n → GoodAt f i) → FirstBad f n r
+
+abbrev pub CheckNamesTheFirst : Type 0
+CheckNamesTheFirst = (f : List ℕ) (n : ℕ) (r : Refused) → checking f ≡ check.refused n r → FirstBad f n r
+
 -- record i is good and has another name
 pub record NotNamed (f : List ℕ) (name : NameFields) (i : ℕ) : Type 0 where
   pub fields : Fields
@@ -86,6 +94,12 @@ pub data FirstNamed (f : List ℕ) (name : NameFields) (n : ℕ) : FindAnswer �
 
 abbrev pub FindsTheFirst : Type 0
 FindsTheFirst = (f : List ℕ) (name : NameFields) (n : ℕ) → checking f ≡ counted n → FirstNamed f name n (finding f name)
+
+-- ---- compare
+
+-- where it answers same, the record's message and the radio's have the same bytes
+abbrev pub SameIsEqual : Type 0
+SameIsEqual = (f : List ℕ) (n : ℕ) (radio : List ℕ) → answerOf (comparing f n radio) ≡ same → messageOf (recordAt f n) ≡ radio
 
 -- ---- make
 
