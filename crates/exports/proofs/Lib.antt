@@ -2,3 +2,4 @@ pub mod FeedLaws
 pub mod FitsLaws
 pub mod OnlyLaws
 pub mod VerdictLaws
+pub mod KeptLaws

@@ -4,4 +4,5 @@ pub mod Goldens
 pub mod Verdicts
 pub mod Feeds
 pub mod Frames
+pub mod Kept
 pub mod Helpers
