@@ -13,7 +13,7 @@ use Rattle.envelope.specs.Fields as fields
 use Rattle.envelope.specs.Layout.{largestMessage}
 use Rattle.envelope.specs.Message.{Given}
 use Rattle.envelope.specs.Reading.{reading}
-use Rattle.envelope.specs.Rewriting.{RewriteAnswer, rewrote, barred, afterReading, rewriting, rewritten, rewroteLength, RewritesNoLonger}
+use Rattle.envelope.specs.Rewriting.{RewriteAnswer, rewrote, barred, afterReading, rewriting, rewritten, rewroteLength, RewritesNoLonger, unread, toldRewriting, RefusedRewriteWritesNothing}
 use Rattle.envelope.specs.RoundTrips.{applicationNumber, givenBy}
 use Rattle.envelope.specs.Told.{toldPart, toldIntegrity, toldEnvelope}
 use Rattle.envelope.specs.Writing.{Outcome, written, refused, writing, bufferAfter, wrote, answerOf, given, Writes}
@@ -92,3 +92,13 @@ rewrites-no-longer s room bytes = go (reading s) refl
     go : (a : Answer) → reading s ≡ a → rewroteLength (afterReading a s room) ≤ largestMessage
     go (fields.refused r) e = omega arith
     go (accepted f) e = fits (ltb room (length s)) (accepted-most s f bytes e)
+
+-- ---- what a refusal leaves
+
+pub refused-rewrite-writes-nothing : RefusedRewriteWritesNothing
+refused-rewrite-writes-nothing s entry exit r p h = go (rewriting s (length entry)) (p .0) (p .1)
+  where
+    go : (a : RewriteAnswer) → toldRewriting r ≡ a → exit ≡ rewritten a s entry → exit ≡ entry
+    go (rewrote n) e x = absurd (h n e)
+    go (unread q) e x = x
+    go (barred n) e x = x

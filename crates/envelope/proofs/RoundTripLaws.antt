@@ -12,7 +12,8 @@ use Rattle.sum.specs.Detection.{Bytes}
 use Rattle.envelope.specs.Fields.{Fields, accepted}
 use Rattle.envelope.specs.Message.{message}
 use Rattle.envelope.specs.Reading.{reading}
-use Rattle.envelope.specs.RoundTrips.{givenBy, WrittenThenRead, WrittenBufferThenRead, ReadThenWritten, SameFieldsSameBytes}
+use Rattle.envelope.specs.Told.{toldEnvelope}
+use Rattle.envelope.specs.RoundTrips.{givenBy, WrittenThenRead, WrittenBufferThenRead, ReadThenWritten, SameFieldsSameBytes, WrittenThenHandedOut, HandedOutThenWritten}
 use Rattle.envelope.specs.Writing.{Outcome, written, refused, writing, bufferAfter, wrote, answerOf}
 use Rattle.envelope.proofs.ReadingLaws.{good}
 use Rattle.envelope.proofs.RebuiltLaws.{rebuilt, again-kept}
@@ -55,6 +56,18 @@ written-again s f room bytes e =
 
 pub read-then-written : ReadThenWritten
 read-then-written s f room bytes e h = written-again s f room bytes e ∙ rw (le-ltb room (length s) h)
+
+-- ---- of the functions' own answers
+
+pub written-then-handed-out : WrittenThenHandedOut
+written-then-handed-out g entry exit w n r p e h =
+    let k = written-buffer-then-read g entry exit w n p e in
+    record { fields = k .fields; tells = h ∙ k .accepts; same = k .same }
+
+pub handed-out-then-written : HandedOutThenWritten
+handed-out-then-written s e entry exit w bytes h room p =
+    let d = read-then-written s (toldEnvelope e) (length entry) bytes (sym h) room in
+    (p .0 ∙ ap answerOf d, p .1 ∙ ap (λ (o : Outcome). bufferAfter o entry) d)
 
 pub same-fields-same-bytes : SameFieldsSameBytes
 same-fields-same-bytes s t f bs bt es et same = sym (rebuilds s f bs es) ∙ ap message same ∙ rebuilds t f bt et

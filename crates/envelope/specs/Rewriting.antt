@@ -50,3 +50,8 @@ RewritesNoLonger = (s : List ℕ) (room : ℕ) → Bytes s → rewroteLength (re
 abbrev pub Rewrites : List ℕ → List ℕ → Rewriting → List ℕ → Type 0
 Rewrites s entry r exit =
     (toldRewriting r ≡ rewriting s (length entry)) × (exit ≡ rewritten (rewriting s (length entry)) s entry)
+
+-- a refusal leaves the buffer as it was; proved in proofs/RewriteLaws
+abbrev pub RefusedRewriteWritesNothing : Type 0
+RefusedRewriteWritesNothing =
+    (s entry exit : List ℕ) (r : Rewriting) → Rewrites s entry r exit → ((n : ℕ) → toldRewriting r ≡ rewrote n → ⊥) → exit ≡ entry

@@ -1,14 +1,18 @@
 -- Written then read: the same fields. Read then written: the same bytes. Each statement is a type here; proofs in proofs/RoundTripLaws.
 -- What reading hands out is put as a sender would give it: the told fields, and the parts of the bytes that they name.
 use Prim.Native.Nat.{ℕ, _≤_}
-use mathlib.Core.List.{List, []}
+use mathlib.Core.List.{List, [], _++_}
 use mathlib.Core.Path.{_≡_}
-use lib.ListN.{length, take}
+use lib.ListN.{length, take, drop}
 use Rattle.sum.specs.Detection.{Bytes}
 use Rattle.envelope.specs.Fields.{AddressingFields, absent, present, IntegrityFields, none, crc, application, Fields, accepted, partOf}
 use Rattle.envelope.specs.Message.{RoutingFields, unaddressed, addressed, Given}
 use Rattle.envelope.specs.Reading.{reading}
+use Rattle.envelope.specs.Told.{toldEnvelope, told, Reads}
 use Rattle.envelope.specs.Writing.{written, writing, wrote, toldWriting, Writes}
+use Rattle.envelope.specs.declared.fields.Envelope.{Envelope}
+use Rattle.envelope.specs.declared.reader.Reading.{Reading as ReadingAnswer}
+use Rattle.envelope.specs.declared.reader.Reading.the-variants.{Accepted}
 use Rattle.envelope.specs.declared.writer.Writing.{Writing}
 
 abbrev pub routingOf : AddressingFields → RoutingFields
@@ -54,10 +58,28 @@ abbrev pub WrittenBufferThenRead : Type 0
 WrittenBufferThenRead =
     (g : Given) (entry exit : List ℕ) (r : Writing) (n : ℕ) → Writes g entry r exit → toldWriting r ≡ wrote n → ReadsAs (take n exit) g
 
+-- an answer to bytes that hands out what g gives
+pub record HandsOut (r : ReadingAnswer) (m : List ℕ) (g : Given) : Type 0 where
+  pub fields : Fields
+  pub tells : told r ≡ accepted fields
+  pub same : givenBy m fields ≡ g
+
+-- and any answer of `read` to that front hands out what was given
+abbrev pub WrittenThenHandedOut : Type 0
+WrittenThenHandedOut =
+    (g : Given) (entry exit : List ℕ) (w : Writing) (n : ℕ) (r : ReadingAnswer)
+    → Writes g entry w exit → toldWriting w ≡ wrote n → Reads (take n exit) r → HandsOut r (take n exit) g
+
 -- what reading hands out of s, written, is s
 abbrev pub ReadThenWritten : Type 0
 ReadThenWritten =
     (s : List ℕ) (f : Fields) (room : ℕ) → Bytes s → reading s ≡ accepted f → length s ≤ room → writing (givenBy s f) room ≡ written s
+
+-- what `read` handed out, given to `write` with room enough: those bytes, and then what the buffer held
+abbrev pub HandedOutThenWritten : Type 0
+HandedOutThenWritten =
+    (s : List ℕ) (e : Envelope) (entry exit : List ℕ) (w : Writing) → Bytes s → Reads s (Accepted e) → length s ≤ length entry
+    → Writes (givenBy s (toldEnvelope e)) entry w exit → (toldWriting w ≡ wrote (length s)) × (exit ≡ s ++ drop (length s) entry)
 
 -- accepted bytes with the same fields, and the same bytes in the parts that these name, are the same
 abbrev pub SameFieldsSameBytes : Type 0
