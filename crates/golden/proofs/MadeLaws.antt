@@ -124,7 +124,7 @@ module _ (m : List ℕ) (fields : Fields) (short : length m ≤ longestMessage) 
   unfolding answerOf
   compares = ap answerOf compared
 
-  finds : finding file (nameOf fields) ≡ found 0 1
+  pub finds : finding file (nameOf fields) ≡ found 0 1
   unfolding finding findFrom
   finds =
       rw (whole, one, judged, eq-eqb (fields .header .messageType) (fields .header .messageType) refl, eq-eqb (fields .header .number) (fields .header .number) refl)

@@ -11,7 +11,7 @@ use Rattle.envelope.specs.Message.{Given, FourDigits}
 use Rattle.envelope.specs.Numbers.{TwoBytes, ThreeBytes, FourBytes}
 use Rattle.envelope.specs.Promise.{Only₂}
 use Rattle.envelope.specs.Qos.{QosFields, Splits, Joins}
-use Rattle.envelope.specs.Rewriting.{Rewrites}
+use Rattle.envelope.specs.Rewriting.{Rewrites, RefusedRewriteWritesNothing}
 use Rattle.envelope.specs.Sequence.{Distance, JudgesSequence}
 use Rattle.envelope.specs.Told.{NumbersFault, Slices, Reads, Holds}
 use Rattle.envelope.specs.Writing.{NumbersWriteFault, Writes, RefusalWritesNothing}
@@ -25,6 +25,7 @@ use Rattle.envelope.specs.declared.reader.Fault.{Fault}
 use Rattle.envelope.specs.declared.writer.WriteFault.{WriteFault}
 use Rattle.envelope.proofs.AnnouncingLaws.{only-announces}
 use Rattle.envelope.proofs.OnlyLaws as only
+use Rattle.envelope.proofs.RewriteLaws.{refused-rewrite-writes-nothing}
 use Rattle.envelope.proofs.WriteLaws.{refusal-writes-nothing}
 use Rattle.judge.specs.Division.{Divides}
 use Rattle.judge.specs.Told.{Judges, TellsLowest}
@@ -59,9 +60,11 @@ use Rattle.exports.specs.Envelopes.{ReadsForC, WritesForC, RewritesForC, Splits
 use Rattle.exports.specs.Feeds.{Lent, TakesForC, EndsForC, RestartsForC, HoldsForC}
 use Rattle.exports.specs.Frames.{FrameLent, UnwrapsForC, WrapsForC, AcknowledgesForC}
 use Rattle.exports.specs.Goldens.{CountsForC, ChecksForC, FindsForC, EntersForC, StepsForC, ComparesForC, MakesForC}
+use Rattle.exports.specs.Kept.{ReadKeeps, WriteKeeps, RewriteKeeps, LineKeeps, StepKeeps, CompareKeeps, MakeKeeps, UnwrapKeeps, WrapKeeps, AcknowledgeKeeps, TakeKeepsFields}
 use Rattle.exports.specs.Verdicts.{JudgesForC}
 use Rattle.exports.specs.Word.{WordTellsItsSlots}
 use Rattle.exports.proofs.FitsLaws.{word-tells-its-slots}
+use Rattle.exports.proofs.KeptLaws as kept
 use Rattle.exports.proofs.OnlyLaws as exports
 
 pub crc-has-one-answer : (bytes : List ℕ) → Only₁ (Sums bytes)
@@ -280,6 +283,10 @@ a-word-tells-its-slots = word-tells-its-slots
 pub a-refusal-writes-nothing : RefusalWritesNothing
 a-refusal-writes-nothing = refusal-writes-nothing
 
+-- so does one of `rewrite`
+pub a-refused-rewrite-writes-nothing : RefusedRewriteWritesNothing
+a-refused-rewrite-writes-nothing = refused-rewrite-writes-nothing
+
 -- one of `compare` its list
 pub a-refused-comparison-keeps-the-list : RefusedComparisonKeepsList
 a-refused-comparison-keeps-the-list = refused-comparison-keeps-list
@@ -287,3 +294,39 @@ a-refused-comparison-keeps-the-list = refused-comparison-keeps-list
 -- and one of `make` its buffer
 pub a-refused-making-keeps-the-buffer : RefusedMakingKeepsBuffer
 a-refused-making-keeps-the-buffer = refused-making-keeps-buffer
+
+-- ---- the same of each C function that writes into lent storage
+
+pub refused-read-for-c-keeps : ReadKeeps
+refused-read-for-c-keeps = kept.read-keeps
+
+pub refused-write-for-c-keeps : WriteKeeps
+refused-write-for-c-keeps = kept.write-keeps
+
+pub refused-rewrite-for-c-keeps : RewriteKeeps
+refused-rewrite-for-c-keeps = kept.rewrite-keeps
+
+pub refused-line-for-c-keeps : LineKeeps
+refused-line-for-c-keeps = kept.line-keeps
+
+pub refused-step-for-c-keeps : StepKeeps
+refused-step-for-c-keeps = kept.step-keeps
+
+pub refused-compare-for-c-keeps : CompareKeeps
+refused-compare-for-c-keeps = kept.compare-keeps
+
+pub refused-make-for-c-keeps : MakeKeeps
+refused-make-for-c-keeps = kept.make-keeps
+
+pub refused-unwrap-for-c-keeps : UnwrapKeeps
+refused-unwrap-for-c-keeps = kept.unwrap-keeps
+
+pub refused-wrap-for-c-keeps : WrapKeeps
+refused-wrap-for-c-keeps = kept.wrap-keeps
+
+pub refused-acknowledge-for-c-keeps : AcknowledgeKeeps
+refused-acknowledge-for-c-keeps = kept.acknowledge-keeps
+
+-- a feed is state and moves on; the sixteen fields stay
+pub refused-take-for-c-keeps-the-fields : TakeKeepsFields
+refused-take-for-c-keeps-the-fields = kept.take-keeps-fields

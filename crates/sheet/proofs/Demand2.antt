@@ -3,13 +3,14 @@
 use Rattle.sum.specs.Vectors.{Vectors}
 use Rattle.sum.proofs.Computed.{vectors}
 use Rattle.envelope.specs.Qos.{JoinsWhatWasSplit, SplitsWhatWasJoined}
-use Rattle.envelope.specs.RoundTrips.{WrittenThenRead, WrittenBufferThenRead, ReadThenWritten, SameFieldsSameBytes}
+use Rattle.envelope.specs.RoundTrips.{WrittenThenRead, WrittenBufferThenRead, WrittenThenHandedOut, ReadThenWritten, HandedOutThenWritten, SameFieldsSameBytes}
 use Rattle.envelope.proofs.QosLaws.{joins-what-was-split, splits-what-was-joined}
 use Rattle.envelope.proofs.RoundTripLaws as trips
-use Rattle.golden.specs.Theorems.{FileWalksInOrder, OtherFileStays, CheckedAreGood, FindsTheFirst, MadeIsGood, NeverTooShort, NeverABeginning}
+use Rattle.golden.specs.Theorems.{FileWalksInOrder, OtherFileStays, CheckedAreGood, CheckNamesTheFirst, FindsTheFirst, SameIsEqual, MadeIsGood, NeverTooShort, NeverABeginning}
 use Rattle.golden.proofs.BeginningLaws as beginning
 use Rattle.golden.proofs.CheckedLaws as checked
 use Rattle.golden.proofs.MadeLaws as made
+use Rattle.golden.proofs.SameLaws as same
 use Rattle.golden.proofs.WalkLaws as walk
 
 -- the sums of the documents: no bytes, the digits 1 to 9 (case n), and the digits with their complemented sum
@@ -24,6 +25,13 @@ written-buffer-then-read = trips.written-buffer-then-read
 
 pub read-then-written : ReadThenWritten
 read-then-written = trips.read-then-written
+
+-- both, of any answers of the two functions
+pub written-then-handed-out : WrittenThenHandedOut
+written-then-handed-out = trips.written-then-handed-out
+
+pub handed-out-then-written : HandedOutThenWritten
+handed-out-then-written = trips.handed-out-then-written
 
 -- nothing of a message is lost in its fields and parts
 pub same-fields-same-bytes : SameFieldsSameBytes
@@ -46,8 +54,14 @@ other-file-stays = walk.other-file-stays
 pub checked-are-good : CheckedAreGood
 checked-are-good = checked.checked-are-good
 
+pub check-names-the-first : CheckNamesTheFirst
+check-names-the-first = same.check-names-the-first
+
 pub finds-the-first : FindsTheFirst
 finds-the-first = checked.finds-the-first
+
+pub same-is-equal : SameIsEqual
+same-is-equal = same.same-is-equal
 
 pub made-is-good : MadeIsGood
 made-is-good = made.made-is-good

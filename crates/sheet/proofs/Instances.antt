@@ -1,7 +1,7 @@
 -- No theorem of the sheet is empty: for each that has hypotheses, a case in which they hold, computed, and what it then says.
 -- Message M of document 01, the CRC message C, a file that make wrote, the empty file, and a file of one byte.
 use mathlib.Core.Bool.{false, cond, not}
-use mathlib.Core.List.{List, [], _∷_}
+use mathlib.Core.List.{List, [], _∷_, _++_}
 use mathlib.Core.Logic.{_⊎_, inl, inr}
 use mathlib.Core.Path.{_≡_, refl, ap, sym, _∙_}
 use Prim.Native.Nat.{ℕ}
@@ -21,8 +21,13 @@ use Rattle.envelope.specs.Fields.{absent}
 use Rattle.envelope.specs.Flags.{badFlags}
 use Rattle.envelope.specs.Message.{beforeField, fieldNumber, message}
 use Rattle.envelope.specs.Qos.{joined, splitting, joining}
-use Rattle.envelope.specs.RoundTrips.{ReadsAs}
-use Rattle.envelope.specs.Writing.{Outcome, written, refused, writing, answerOf, bufferAfter, hasZero, badEnd, strayIntegrity}
+use Rattle.envelope.specs.Rewriting.{Rewrites}
+use Rattle.envelope.specs.RoundTrips.{ReadsAs, HandsOut}
+use Rattle.envelope.specs.Told.{Reads}
+use Rattle.envelope.specs.Writing.{Outcome, written, refused, writing, answerOf, bufferAfter, wrote, toldWriting, Writes, hasZero, badEnd, strayIntegrity}
+use Rattle.envelope.specs.declared.reader.Fault.the-variants.{TooShort}
+use Rattle.envelope.specs.declared.reader.Reading.the-variants.{Accepted}
+use Rattle.envelope.specs.declared.rewriter.Rewriting.the-variants.{Unread}
 use Rattle.envelope.specs.declared.writer.Writing.the-variants.{Written, Refused}
 use Rattle.envelope.specs.declared.writer.WriteFault.the-variants.{NoRoom}
 use Rattle.golden.specs.Checking.{counted, checking}
@@ -36,22 +41,25 @@ use Rattle.golden.specs.Refusal.{plainly}
 use Rattle.golden.specs.Record.{messageOf}
 use Rattle.golden.specs.Stepping.{stepAt, nextAfter, toldReached}
 use Rattle.golden.specs.Stepping as step
-use Rattle.golden.specs.Theorems.{AllGood, FirstNamed, MadeGood, InOrder}
+use Rattle.golden.specs.Theorems.{AllGood, FirstBad, FirstNamed, MadeGood, InOrder}
 use Rattle.golden.specs.declared.comparer.Comparison.the-variants.{NoRecord}
 use Rattle.golden.specs.declared.maker.Making.the-variants.{Made, WrongBuffer}
 use Rattle.golden.specs.declared.stepper.Reached.the-variants.{End, NotAFile}
+use Rattle.exports.specs.Envelopes.{ReadsForC}
 use Rattle.exports.specs.Word.{slots, word, unword}
 use Rattle.sheet.specs.Cases.{M, likeM, C, fieldsOfC}
 use Rattle.sheet.specs.Limits.{acrossTheEdge}
 use Rattle.sheet.proofs.Cases.{starred}
-use Rattle.sheet.proofs.Demand1.{a-word-tells-its-slots, a-refusal-writes-nothing, a-refused-comparison-keeps-the-list, a-refused-making-keeps-the-buffer}
-use Rattle.sheet.proofs.Demand2.{written-then-read, written-buffer-then-read, read-then-written, same-fields-same-bytes, qos-joins-what-was-split, qos-splits-what-was-joined, file-walks-in-order, other-file-stays, checked-are-good, finds-the-first, made-is-good, never-a-beginning}
+use Rattle.sheet.proofs.Demand1.{a-word-tells-its-slots, a-refusal-writes-nothing, a-refused-rewrite-writes-nothing, refused-read-for-c-keeps, a-refused-comparison-keeps-the-list, a-refused-making-keeps-the-buffer}
+use Rattle.sheet.proofs.Demand2.{written-then-read, written-buffer-then-read, written-then-handed-out, read-then-written, handed-out-then-written, same-fields-same-bytes, qos-joins-what-was-split, qos-splits-what-was-joined, file-walks-in-order, other-file-stays, checked-are-good, check-names-the-first, finds-the-first, same-is-equal, made-is-good, never-a-beginning}
 use Rattle.sheet.proofs.Apart.{apart}
 use Rattle.sheet.proofs.Demand3.{four-bytes-show, thirty-two-bits-show, three-bits-show, bytes-at-the-edge-show, two-and-two-show, demand-3, demand-3-bits, golden-demand-3, three-bits-anywhere, golden-three-bits-anywhere, any-window, golden-any-window, middle-window, golden-middle-window}
 use Rattle.sheet.proofs.Limits.{limits, bytes-of-pair, pair-length, pair-outside}
+use Rattle.sheet.proofs.OneFeed.{envelopeM}
 use Rattle.sheet.proofs.OneRecord.{one-checks, one-holds, one-declares}
 use Rattle.sheet.proofs.WrongAnswers.{givenM, writes-M}
 use Rattle.sheet.proofs.WrongGolden.{checks-M}
+use Rattle.sheet.proofs.WrongRules.{shortLength, bad-records}
 
 -- ---- the round trips, at M
 
@@ -65,6 +73,18 @@ pub M-written-buffer-then-read : ReadsAs M givenM
 M-written-buffer-then-read =
     written-buffer-then-read givenM (replicate 21 0) M (Written 21) 21
     (ap answerOf (sym writes-M), ap (λ (o : Outcome). bufferAfter o (replicate 21 0)) (sym writes-M)) refl
+
+writes-in-buffer : Writes givenM (replicate 21 0) (Written 21) M
+writes-in-buffer = (ap answerOf (sym writes-M), ap (λ (o : Outcome). bufferAfter o (replicate 21 0)) (sym writes-M))
+
+reads-M : Reads M (Accepted envelopeM)
+reads-M = sym (starred .a .0)
+
+pub M-written-then-handed-out : HandsOut (Accepted envelopeM) M givenM
+M-written-then-handed-out = written-then-handed-out givenM (replicate 21 0) M (Written 21) 21 (Accepted envelopeM) writes-in-buffer refl reads-M
+
+pub M-handed-out-then-written : (toldWriting (Written 21) ≡ wrote 21) × (M ≡ M ++ [])
+M-handed-out-then-written = handed-out-then-written M envelopeM (replicate 21 0) M (Written 21) bytes-M reads-M (omega arith) writes-in-buffer
 
 pub M-read-then-written : writing givenM 21 ≡ written M
 M-read-then-written = read-then-written M (likeM absent 17 0) 21 bytes-M (starred .a .0) (omega arith)
@@ -111,6 +131,16 @@ pub made-file-is-good : MadeGood M file
 made-file-is-good =
     made-is-good M (replicate 512 0) file Made
     (sym (made-in 512), ap (λ (a : make.MakeAnswer). make.bufferAfter a M (replicate 512 0)) (sym (made-in 512))) refl
+
+pub made-file-is-the-message : messageOf (recordAt file 0) ≡ M
+made-file-is-the-message = same-is-equal file 0 M (made-file-is-good .compares)
+
+pub a-short-length-is-the-first : FirstBad shortLength 0 (plainly 23)
+a-short-length-is-the-first = check-names-the-first shortLength 0 (plainly 23) (bad-records .0)
+
+pub one-byte-is-no-file : FirstBad (7 ∷ []) 0 (plainly 21)
+unfolding checking badFile
+one-byte-is-no-file = check-names-the-first (7 ∷ []) 0 (plainly 21) refl
 
 pub made-file-has-good-records : AllGood file 1
 made-file-has-good-records = checked-are-good file 1 checks-M
@@ -241,3 +271,20 @@ the-files-of-the-pair =
 pub a-word-comes-back : unword (word (slots 25 7 3 0)) ≡ slots 25 7 3 0
 a-word-comes-back =
     a-word-tells-its-slots (slots 25 7 3 0) (record { number = omega arith; reading = omega arith; count = omega arith; value = omega arith })
+
+-- ---- what a refusal leaves: 20 bytes of M, read and rewritten for C and by `rewrite`
+
+short-M : ReadsForC (take 20 M) (9 ∷ []) 1 (9 ∷ [])
+unfolding word
+short-M = rw (starred .b) (refl, refl)
+
+pub the-fields-stayed : _≡_ {A = List ℕ} (9 ∷ []) (9 ∷ [])
+the-fields-stayed = refused-read-for-c-keeps (take 20 M) (9 ∷ []) 1 (9 ∷ []) short-M (λ e. apart 1 0 tt e)
+
+rewrites-short-M : Rewrites (take 20 M) (9 ∷ []) (Unread (record { fault = TooShort })) (9 ∷ [])
+rewrites-short-M = rw (starred .b) (refl, refl)
+
+pub the-buffer-stayed : _≡_ {A = List ℕ} (9 ∷ []) (9 ∷ [])
+the-buffer-stayed =
+    a-refused-rewrite-writes-nothing (take 20 M) (9 ∷ []) (9 ∷ []) (Unread (record { fault = TooShort })) rewrites-short-M
+    (λ n e. let z : _≡_ {A = ℕ} 0 1 = cc in omega arith)

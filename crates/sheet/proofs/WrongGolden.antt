@@ -12,13 +12,14 @@ use Rattle.envelope.specs.declared.reader.Fault.the-variants.{TooShort}
 use Rattle.golden.specs.Checking.{counted, checking, Checks}
 use Rattle.golden.specs.Comparing.{Outcome, positions, same, different, listAfter, comparing, answerOf, Compares}
 use Rattle.golden.specs.File.{badFile, judgedAt}
-use Rattle.golden.specs.Finding.{findFrom, finding, Finds}
+use Rattle.golden.specs.Finding.{found, findFrom, finding, Finds}
 use Rattle.golden.specs.Listing.{counting, entryAt, Counts, Enters}
 use Rattle.golden.specs.Making.{making, recordOf, bufferAfter, MakeAnswer, made, declined, Makes}
 use Rattle.golden.specs.Positions.{noted}
 use Rattle.golden.specs.Record.{storedWord, storedLength, badLength, judging}
 use Rattle.golden.specs.Refusal.{Refused, plainly, NumbersRecordFault}
 use Rattle.golden.specs.Stepping.{stepAt, nextAfter, Steps}
+use Rattle.golden.specs.Theorems.{openedNumber}
 use Rattle.golden.specs.Walking.{Begins, Walks}
 use Rattle.golden.specs.declared.checker.Checking.the-variants as checking
 use Rattle.golden.specs.declared.comparer.Comparison.the-variants as comparison
@@ -27,10 +28,11 @@ use Rattle.golden.specs.declared.finder.Name.{Name}
 use Rattle.golden.specs.declared.lister.Counting.the-variants as counting
 use Rattle.golden.specs.declared.lister.Entry.the-variants as entry
 use Rattle.golden.specs.declared.maker.Making.the-variants as making
+use Rattle.golden.specs.declared.record.RecordFault.{RecordFault}
 use Rattle.golden.specs.declared.record.RecordFault.the-variants.{BadLength, Unread}
 use Rattle.golden.specs.declared.stepper.Reached.{Reached}
 use Rattle.golden.specs.declared.stepper.Reached.the-variants.{End}
-use Rattle.golden.proofs.MadeLaws.{checks, compared, compares}
+use Rattle.golden.proofs.MadeLaws.{checks, compared, compares, finds}
 use Rattle.sheet.specs.Cases.{M, likeM}
 use Rattle.sheet.proofs.Apart.{apart}
 use Rattle.sheet.proofs.Cases.{starred}
@@ -39,6 +41,9 @@ use Rattle.sheet.proofs.Cases.{starred}
 
 pub checks-M : checking (recordOf M) ≡ counted 1
 checks-M = checks M (likeM absent 17 0) (omega arith) (starred .a .0)
+
+finds-M : finding (recordOf M) (record { messageType = 6000; number = 1 }) ≡ found 0 1
+finds-M = finds M (likeM absent 17 0) (omega arith) (starred .a .0)
 
 compares-M : answerOf (comparing (recordOf M) 0 M) ≡ same
 compares-M = compares M (likeM absent 17 0) (omega arith) (starred .a .0)
@@ -55,7 +60,7 @@ check-refuses-one-byte kept = let z : _≡_ {A = ℕ} 0 1 = cc in omega arith
 pub check-counts-its-records : Checks (recordOf M) (checking.Count 0) → ⊥
 check-counts-its-records kept = let z : counted 0 ≡ counted 1 = kept ∙ checks-M in let y : _≡_ {A = ℕ} 0 1 = cc in omega arith
 
--- ---- find: a record invented; an opened record invented; on past a bad record
+-- ---- find: a record invented; an opened record invented, with 27, with a record found and with a bad one; on past a bad record
 
 pub find-invents-no-record : (name : Name) → Finds [] name (finding.Found 0 1) → ⊥
 unfolding finding findFrom badFile
@@ -69,6 +74,14 @@ find-invents-no-opened-record name kept = let z : _≡_ {A = ℕ} 1 0 = cc in om
 pub find-stops-at-a-bad-record : Finds (replicate 512 0 ++ recordOf M) (record { «message_type» = 6000; number = 1 }) (finding.Found 1 2) → ⊥
 unfolding finding findFrom badFile judgedAt judging badLength storedLength storedWord twoAt recordOf
 find-stops-at-a-bad-record kept = let z : _≡_ {A = ℕ} 0 1 = cc in omega arith
+
+-- counts that are invented where a record is found, and where one is bad
+pub find-opens-no-more-than-it-must : Finds (recordOf M) (record { «message_type» = 6000; number = 1 }) (finding.Found 0 2) → ⊥
+find-opens-no-more-than-it-must kept = apart 2 1 tt (ap openedNumber (kept ∙ finds-M))
+
+pub find-counts-the-bad-record : (fault : RecordFault) → Finds (replicate 512 0) (record { «message_type» = 6000; number = 1 }) (finding.Bad fault 0) → ⊥
+unfolding finding findFrom badFile judgedAt judging badLength storedLength storedWord twoAt
+find-counts-the-bad-record fault kept = apart 0 1 tt (ap openedNumber kept)
 
 -- ---- step and walk: on past the end; the end of what is no file; a walk that begins later, or on another file; one that stays
 

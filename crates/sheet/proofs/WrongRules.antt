@@ -144,7 +144,7 @@ write-does-not-pass-over-15 n exit kept = passed-over givenM (replicate 20 0) n 
 
 -- ---- golden files: a record whose length is 20, one with a byte behind its message, and one of another header version
 
-abbrev shortLength : List ℕ
+abbrev pub shortLength : List ℕ
 shortLength = 0 ∷ 20 ∷ replicate 510 0
 
 abbrev byteBehind : List ℕ
@@ -153,7 +153,7 @@ byteBehind = 0 ∷ 21 ∷ M ++ 1 ∷ replicate 488 0
 abbrev otherVersion : List ℕ
 otherVersion = 0 ∷ 21 ∷ set M 0 3 ++ replicate 489 0
 
-bad-records :
+pub bad-records :
     (checking shortLength ≡ check.refused 0 (plainly 23))
     × ((checking byteBehind ≡ check.refused 0 (plainly 24)) × (checking otherVersion ≡ check.refused 0 (passingOn 25 2)))
 unfolding checking checkFrom badFile judgedAt judging badLength storedLength storedWord allZero twoAt reading heading
