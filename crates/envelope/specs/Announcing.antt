@@ -1,4 +1,4 @@
--- What the first bytes of a message announce before the rest is there: nothing yet, a heading that is refused, or the message's whole length.
+-- What the first bytes of a message announce before the rest is there: nothing yet, a heading that is refused, or the message's whole length. RULES 7.
 -- Laws in proofs/AnnouncingLaws. A layer that takes a message in parts rests on these and opens neither heading nor reading.
 use Prim.Native.Nat.{ℕ}
 use mathlib.Core.Bool.{cond}

@@ -1,4 +1,4 @@
--- Beyond demand 3: the four neighbouring bytes may lie anywhere, also across the edge of the integrity field, but for one window.
+-- Beyond demand 3: the four neighbouring bytes may lie anywhere, also across the edge of the integrity field, but for one window. RULES 6.
 -- That one has two bytes before the field and two in it; there one difference gets by and no other (sheet/Limits has a pair).
 use Prim.Native.Nat.{ℕ, _+_, _-_}
 use mathlib.Core.List.{List}

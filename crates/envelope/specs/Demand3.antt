@@ -1,4 +1,4 @@
--- Demand 3: a change inside four neighbouring bytes cannot turn one accepted CRC message into another.
+-- Demand 3: a change inside four neighbouring bytes cannot turn one accepted CRC message into another. RULES 6.
 -- The window lies wholly before the integrity field or is that field; across its edge it fails in one window alone (AnyWindow, of which this is a case).
 use Prim.Native.Nat.{ℕ, _+_, _-_, _≤_, _<_}
 use mathlib.Core.List.{List, _++_}

@@ -1,4 +1,4 @@
--- The paper's answers to reading, in plain numbers: the fields of an accepted message, or a refusal with its number and no fields.
+-- The paper's answers to reading, in plain numbers: the fields of an accepted message, or a refusal with its number and no fields. RULES 1.
 -- The code's own types are told in these, by specs/Told.
 use Prim.Native.Nat.{ℕ}
 use mathlib.Core.List.{List}

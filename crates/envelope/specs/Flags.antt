@@ -1,4 +1,4 @@
--- The flags byte, by paragraph 3.2.1.4 of source document 000, bit 0 the lowest.
+-- The flags byte, by paragraph 3.2.1.4 of source document 000, bit 0 the lowest. RULES 1.
 -- Bit 0 time format, 1 encryption, 2 compression, 3-4 integrity kind, 5-7 unassigned. Encryption and compression change no rule here.
 use Prim.Native.Nat.{ℕ, _/_, _%_}
 use mathlib.Core.Bool.{Bool, not, _||_}

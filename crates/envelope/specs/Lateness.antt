@@ -1,4 +1,4 @@
--- Lateness of a message at a clock in seconds, from its fields.
+-- Lateness of a message at a clock in seconds, from its fields. RULES 4.
 -- The sum of start and TTL is a whole number: it does not run round.
 use Prim.Native.Nat.{ℕ, _+_}
 use mathlib.Core.Bool.{Bool, cond, not, _||_}

@@ -1,4 +1,4 @@
--- The envelope's table: where each field begins, and the sizes, each number named once.
+-- The envelope's table: where each field begins, and the sizes, each number named once. RULES 1.
 -- The code names the same numbers as constants of `Envelope`; a mismatch fails the proof of reading.
 use Prim.Native.Nat.{ℕ, _+_}
 

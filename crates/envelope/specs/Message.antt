@@ -1,4 +1,4 @@
--- The bytes of a message, from what a sender gives: header, variable header, body, integrity field.
+-- The bytes of a message, from what a sender gives: header, variable header, body, integrity field. RULES 3.
 -- Header version, V and D are not given: they follow.
 use Prim.Native.Nat.{ℕ, _/_, _%_}
 use mathlib.Core.Bool.{cond}

@@ -1,4 +1,4 @@
--- The QoS field: its five numbers, split out and joined again.
+-- The QoS field: its five numbers, split out and joined again. RULES 1.
 -- Bits 15-13 service request, 12-9 special handling, 8-6 network preference, 5-3 priority, 2-0 class.
 use Prim.Native.Nat.{ℕ, _+_, _*_, _/_, _%_, _<_}
 use mathlib.Core.Bool.{Bool, cond, _&&_}

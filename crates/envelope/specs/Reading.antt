@@ -1,4 +1,4 @@
--- Reading: the seven rules in their order, the first that applies is the answer, and the fields where none does.
+-- Reading: the seven rules in their order, the first that applies is the answer, and the fields where none does. RULES 2.
 -- `s` is the list of the bytes lent.
 use Prim.Native.Nat.{ℕ, _+_}
 use mathlib.Core.Bool.{Bool, cond, not}

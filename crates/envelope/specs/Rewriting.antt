@@ -1,4 +1,4 @@
--- Reading and writing again: the refusals of reading, then 15 where the buffer is shorter than the message, else the same bytes.
+-- Reading and writing again: the refusals of reading, then 15 where the buffer is shorter than the message, else the same bytes. RULES 3.
 -- `room` is the length of the buffer.
 use Prim.Native.Nat.{ℕ, _≤_}
 use mathlib.Core.Bool.{cond}

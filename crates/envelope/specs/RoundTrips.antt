@@ -1,4 +1,4 @@
--- Written then read: the same fields. Read then written: the same bytes. Each statement is a type here; proofs in proofs/RoundTripLaws.
+-- Written then read: the same fields. Read then written: the same bytes. Each statement is a type here; proofs in proofs/RoundTripLaws. RULES 3.
 -- What reading hands out is put as a sender would give it: the told fields, and the parts of the bytes that they name.
 use Prim.Native.Nat.{ℕ, _≤_}
 use mathlib.Core.List.{List, [], _++_}

@@ -1,4 +1,4 @@
--- Sequence: from an old message number to a new one. The numbers run round past their largest value on purpose.
+-- Sequence: from an old message number to a new one. The numbers run round past their largest value on purpose. RULES 4.
 -- `pos n` is the whole number n, `negsuc n` is -(n + 1).
 use Prim.Native.Nat.{ℕ, zero, suc, _+_, _-_, _%_, _^_}
 use mathlib.Core.Bool.{cond}

@@ -1,4 +1,4 @@
--- K11: two accepted CRC messages of one length, at most 510 bytes, with the same integrity field never differ in one or two bits before it alone.
+-- K11: two accepted CRC messages of one length, at most 510 bytes, with the same integrity field never differ in one or two bits before it alone. RULES 6.
 -- Beyond it: nor in one, two or three bits wherever in the message, the field's own among them. With four both are false (sheet/FourBits has a pair).
 use Prim.Native.Nat.{ℕ, _-_, _≤_}
 use mathlib.Core.List.{List}

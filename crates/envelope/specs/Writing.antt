@@ -1,4 +1,4 @@
--- Writing: the five refusals in their order, the first that applies is the answer; a refusal writes nothing.
+-- Writing: the five refusals in their order, the first that applies is the answer; a refusal writes nothing. RULES 3.
 -- `room` is the length of the buffer.
 use Prim.Native.Nat.{ℕ, _≤_}
 use mathlib.Core.Bool.{Bool, false, cond, not, _&&_, _||_}

@@ -1,4 +1,4 @@
--- Runs of calls, by what the calls promise: the same bytes, cut anywhere, give the same messages, the same first refusal and the same feed.
+-- Runs of calls, by what the calls promise: the same bytes, cut anywhere, give the same messages, the same first refusal and the same feed. RULES 7.
 -- Proofs in proofs/RunLaws and proofs/UseLaws.
 use Prim.Native.Nat.{ℕ, suc, _+_, _≤_, _<_}
 use mathlib.Core.List.{List, [], _∷_, _++_}

@@ -1,4 +1,4 @@
--- A feed, byte by byte: one byte into a state gives a state and what was found. A piece is its bytes until something is found.
+-- A feed, byte by byte: one byte into a state gives a state and what was found. A piece is its bytes until something is found. RULES 7.
 -- The bytes past those that are in are part of the state too, so that "the same state" is plain equality.
 use Prim.Native.Nat.{ℕ, zero, suc, _+_}
 use mathlib.Core.Bool.{cond}

@@ -1,4 +1,4 @@
--- What a run finds is what reading accepts, all of it is found, and each thing is told at the byte that settles it and not before.
+-- What a run finds is what reading accepts, all of it is found, and each thing is told at the byte that settles it and not before. RULES 7.
 -- Proofs in proofs/SettlingLaws, proofs/FoundLaws and proofs/RefusedLaws.
 use Prim.Native.Nat.{ℕ, _≤_, _<_}
 use mathlib.Core.List.{List, [], _∷_, _++_}

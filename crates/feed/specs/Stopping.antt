@@ -1,4 +1,4 @@
--- What stops a feed and what does not: a refusal, the end, an empty piece, a restart.
+-- What stops a feed and what does not: a refusal, the end, an empty piece, a restart. RULES 7.
 -- Proofs in proofs/StopLaws.
 use Prim.Native.Nat.{ℕ, _<_}
 use mathlib.Core.List.{List, []}

@@ -1,4 +1,4 @@
--- K11 for the feed: of two streams, cut anyhow, a message found in the one and one found in the other never differ in one or two bits before the field alone.
+-- K11 for the feed: of two streams, cut anyhow, a message found in the one and one found in the other never differ in one or two bits before the field alone. RULES 6.
 -- Proofs in proofs/BitsLaws.
 use Prim.Native.Nat.{ℕ, _≤_}
 use mathlib.Core.List.{List, _∷_, _++_}

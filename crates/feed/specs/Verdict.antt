@@ -1,4 +1,4 @@
--- What the bytes of a message say, from its first to the one that just came: more is to come, it is whole, or it is refused.
+-- What the bytes of a message say, from its first to the one that just came: more is to come, it is whole, or it is refused. RULES 7.
 -- Heading and message are judged by `announcing` and `reading` of the layer below; this file adds the room of 510 bytes.
 use Prim.Native.Nat.{ℕ}
 use mathlib.Core.Bool.{cond}

@@ -1,4 +1,4 @@
--- Demand 3 and K11 through frames: what the sum shows of two messages it shows of the frames that carry them.
+-- Demand 3 and K11 through frames: what the sum shows of two messages it shows of the frames that carry them. RULES 6.
 -- Two frames of one length, both unwrapped as data messages that declare a CRC. Proved in proofs/DetectLaws.
 use Prim.Native.Nat.{ℕ, _+_, _≤_, _<_}
 use mathlib.Core.List.{List}

@@ -1,4 +1,4 @@
--- The table of a Class D frame (001, tables 3.2 to 3.5 and 8.1): constants, where each field begins, and the sizes, each number named once.
+-- The table of a Class D frame (001, tables 3.2 to 3.5 and 8.1): constants, where each field begins, and the sizes, each number named once. RULES 8.
 -- The code names the same numbers in `layout`; a mismatch fails a proof.
 use Prim.Native.Nat.{ℕ, _+_}
 

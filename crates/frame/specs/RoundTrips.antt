@@ -1,4 +1,4 @@
--- Out and in again, in and out again, for messages and for acknowledgments: of the definitions, then of any answers and buffers that keep the promises.
+-- Out and in again, in and out again, for messages and for acknowledgments: of the definitions, then of any answers and buffers that keep the promises. RULES 8.
 -- Each statement is a type here; proofs in proofs/RoundTripLaws.
 use Prim.Native.Nat.{ℕ, _≤_}
 use mathlib.Core.Bool.{true}

@@ -1,4 +1,4 @@
--- Unwrapping (K12: import): the rules 61 to 67 in their order, the first that applies is the answer; else the message or the acknowledgment.
+-- Unwrapping (K12: import): the rules 61 to 67 in their order, the first that applies is the answer; else the message or the acknowledgment. RULES 8.
 -- `s` is the list of the bytes lent.
 use Prim.Native.Nat.{ℕ, _+_, _≤_}
 use mathlib.Core.Bool.{Bool, cond, not, _&&_, _||_}

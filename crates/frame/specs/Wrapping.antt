@@ -1,4 +1,4 @@
--- Wrapping (K12: export): the refusals 67, 69, 68 in their order, the first that applies is the answer; a refusal writes nothing.
+-- Wrapping (K12: export): the refusals 67, 69, 68 in their order, the first that applies is the answer; a refusal writes nothing. RULES 8.
 -- Acknowledging is refused for want of room alone. `room` is the length of the buffer.
 use Prim.Native.Nat.{ℕ, _≤_}
 use mathlib.Core.Bool.{cond}

@@ -1,4 +1,4 @@
--- Check: the count, or the first bad record's number and refusal; record 0 for 21.
+-- Check: the count, or the first bad record's number and refusal; record 0 for 21. RULES 5.
 -- `f` is the list of the file's bytes, and `n` the number of a record.
 use Prim.Native.Nat.{ℕ, zero, suc, _+_}
 use mathlib.Core.Bool.{cond}

@@ -1,4 +1,4 @@
--- Compare one record with a radio's message: same, or different with the total of differing positions.
+-- Compare one record with a radio's message: same, or different with the total of differing positions. RULES 5.
 -- A position below only one of the two lengths differs. No refusal writes to the list.
 use Prim.Native.Nat.{ℕ}
 use mathlib.Core.Bool.{Bool, true, false, cond, not, _&&_, _||_}

@@ -1,4 +1,4 @@
--- A golden file: records of 512 bytes with no header, at most 128.
+-- A golden file: records of 512 bytes with no header, at most 128. RULES 5.
 -- `f` is the list of the file's bytes, and records are numbered from 0.
 use Prim.Native.Nat.{ℕ, _*_, _/_, _%_}
 use mathlib.Core.Bool.{Bool, not, _||_}

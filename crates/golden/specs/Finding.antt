@@ -1,4 +1,4 @@
--- Find: records are opened from the first until one is bad or has the type and number sought.
+-- Find: records are opened from the first until one is bad or has the type and number sought. RULES 5.
 -- With each answer goes the number of records opened: the place of the deciding record plus one, all for 27, none for 21.
 use Prim.Native.Nat.{ℕ, zero, suc, _+_}
 use mathlib.Core.Bool.{Bool, cond, _&&_}

@@ -1,4 +1,4 @@
--- What a listing needs: the count of a file, and of each record the type, number and length of its message, or its refusal.
+-- What a listing needs: the count of a file, and of each record the type, number and length of its message, or its refusal. RULES 5.
 -- 21 comes first, then 22.
 use Prim.Native.Nat.{ℕ}
 use mathlib.Core.Bool.{cond}

@@ -1,4 +1,4 @@
--- Make a record of a message: 512 zero bytes until length and message go in; it is then written to the buffer.
+-- Make a record of a message: 512 zero bytes until length and message go in; it is then written to the buffer. RULES 5.
 -- `room` is the length of the buffer. No refusal writes.
 use Prim.Native.Nat.{ℕ, _-_}
 use mathlib.Core.Bool.{cond, not}

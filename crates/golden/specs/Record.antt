@@ -1,4 +1,4 @@
--- A record: 512 bytes, the stored length L, then L bytes of message, and every byte after the message zero.
+-- A record: 512 bytes, the stored length L, then L bytes of message, and every byte after the message zero. RULES 5.
 -- `r` is the list of a record's bytes.
 use Prim.Native.Nat.{ℕ, _+_, _-_}
 use mathlib.Core.Bool.{Bool, true, cond, not, _&&_, _||_}

@@ -1,4 +1,4 @@
--- Walk: a step answers the message of a record as a part of the file, its refusal, or the end, and the number of the next record.
+-- Walk: a step answers the message of a record as a part of the file, its refusal, or the end, and the number of the next record. RULES 5.
 -- That is one on, except at the end and at 21, where the walk stays. A number at or past the count is the end.
 use Prim.Native.Nat.{ℕ, _+_, _*_}
 use mathlib.Core.Bool.{cond}

@@ -1,4 +1,4 @@
--- Walk, as a struct: the lent file and the number of the next record, which starts at 0. A step answers as specs/Stepping says, and only the number changes.
+-- Walk, as a struct: the lent file and the number of the next record, which starts at 0. A step answers as specs/Stepping says, and only the number changes. RULES 5.
 -- `w` is the walk before the step, `after` the walk after it, and `r` the answer.
 use mathlib.Core.Path.{_≡_}
 use Prim.Native.Nat.{ℕ}

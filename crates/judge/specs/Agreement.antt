@@ -1,4 +1,4 @@
--- The two readers agree, and so do the two sums: each statement is a type, with its proof in proofs/AgreementLaws and DivisionLaws.
+-- The two readers agree, and so do the two sums: each statement is a type, with its proof in proofs/AgreementLaws and DivisionLaws. RULES 2.
 -- They are stated of the definitions, and of any answers that keep the promises of `read`, `judge`, `Judging::lowest`, `crc` and `divide`.
 use Prim.Native.Nat.{ℕ}
 use mathlib.Core.Bool.{Bool, true, false}

@@ -1,4 +1,4 @@
--- The seven rules of reading, each by itself, as far as the bytes reach; the rules are the first reader's own, its order is not here.
+-- The seven rules of reading, each by itself, as far as the bytes reach; the rules are the first reader's own, its order is not here. RULES 2.
 -- `s` is the list of the bytes lent. Past the end a byte counts as 0, and no rule that looks there is judged.
 use Prim.Native.Nat.{ℕ, _+_}
 use mathlib.Core.Bool.{Bool, true, false, cond, _&&_}

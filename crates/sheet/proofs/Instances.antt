@@ -4,7 +4,7 @@ use mathlib.Core.Bool.{false, cond, not}
 use mathlib.Core.List.{List, [], _∷_, _++_}
 use mathlib.Core.Logic.{_⊎_, inl, inr}
 use mathlib.Core.Path.{_≡_, refl, ap, sym, _∙_}
-use Prim.Native.Nat.{ℕ}
+use Prim.Native.Nat.{ℕ, zero, suc}
 use native.Mathlib.Omega.{arith}
 use denote.Ref.{RefT, now}
 use lib.Dec.{eqb, lit≤}
@@ -19,6 +19,7 @@ use Rattle.envelope.specs.AnyWindow.{OneDifference}
 use Rattle.envelope.specs.Demand3.{DeclaresCrc, before, field}
 use Rattle.envelope.specs.Fields.{absent}
 use Rattle.envelope.specs.Flags.{badFlags}
+use Rattle.envelope.specs.Numbers.{twoAt}
 use Rattle.envelope.specs.Message.{beforeField, fieldNumber, message}
 use Rattle.envelope.specs.Qos.{joined, splitting, joining}
 use Rattle.envelope.specs.Rewriting.{Rewrites}
@@ -33,18 +34,22 @@ use Rattle.envelope.specs.declared.writer.WriteFault.the-variants.{NoRoom}
 use Rattle.golden.specs.Checking.{counted, checking}
 use Rattle.golden.specs.Comparing.{properBeginning, comparing, listAfter}
 use Rattle.golden.specs.Comparing as compare
-use Rattle.golden.specs.File.{badFile, recordAt}
+use Rattle.golden.specs.File.{badFile, recordAt, judgedAt}
 use Rattle.golden.specs.Finding.{finding}
 use Rattle.golden.specs.Making.{making, recordOf}
 use Rattle.golden.specs.Making as make
 use Rattle.golden.specs.Refusal.{plainly}
-use Rattle.golden.specs.Record.{messageOf}
-use Rattle.golden.specs.Stepping.{stepAt, nextAfter, toldReached}
+use Rattle.golden.specs.Record.{storedWord, storedLength, badLength, allZero, judging, messageOf}
+use Rattle.golden.specs.Stepping.{end, stepAt, nextAfter, toldReached}
 use Rattle.golden.specs.Stepping as step
 use Rattle.golden.specs.Theorems.{AllGood, FirstBad, FirstNamed, MadeGood, InOrder}
 use Rattle.golden.specs.declared.comparer.Comparison.the-variants.{NoRecord}
 use Rattle.golden.specs.declared.maker.Making.the-variants.{Made, WrongBuffer}
-use Rattle.golden.specs.declared.stepper.Reached.the-variants.{End, NotAFile}
+use Rattle.golden.specs.Walking.{Walks}
+use Rattle.golden.specs.declared.record.RecordFault.the-variants.{BadLength}
+use Rattle.golden.specs.declared.stepper.Reached.{Reached}
+use Rattle.golden.specs.declared.stepper.Reached.the-variants.{Message, Bad, End, NotAFile}
+use Rattle.golden.specs.declared.walker.Walk.{Walk}
 use Rattle.exports.specs.Envelopes.{ReadsForC}
 use Rattle.exports.specs.Word.{slots, word, unword}
 use Rattle.sheet.specs.Cases.{M, likeM, C, fieldsOfC}
@@ -151,12 +156,58 @@ made-file-is-searched = finds-the-first file (record { messageType = 6000; numbe
 pub M-and-C-no-beginning : properBeginning M C ≡ false
 M-and-C-no-beginning = never-a-beginning M C (likeM absent 17 0) fieldsOfC (starred .a .0) (starred .kind-crc)
 
+-- ---- walks
+
 -- any reference to the empty file: the walk is at its end from the first step on
 pub empty-file-walks : (lent : RefT (List ℕ)) → now lent ≡ [] → InOrder (now lent) (λ k. End)
 unfolding stepAt nextAfter badFile
 empty-file-walks lent e =
     file-walks-in-order lent (λ k. record { file = lent; next = 0 }) (λ k. End)
     (record { fresh = (refl, refl); steps = λ k. (rw e, (refl, rw e)) }) (rw e)
+
+-- ---- a walk over a good record, that of M, and a bad one, of zeros
+
+abbrev twoRecords : List ℕ
+twoRecords = recordOf M ++ replicate 512 0
+
+good-step : stepAt twoRecords 0 ≡ step.message (record { place = 2; size = 21 })
+unfolding stepAt badFile judgedAt judging badLength storedLength storedWord allZero recordOf twoAt
+good-step = rw (starred .a .0)
+
+bad-step : stepAt twoRecords 1 ≡ step.refused (plainly 23)
+unfolding stepAt badFile judgedAt judging badLength storedLength storedWord recordOf twoAt
+bad-step = refl
+
+last-step : stepAt twoRecords 2 ≡ end
+unfolding stepAt badFile recordOf
+last-step = refl
+
+goes-on : (nextAfter twoRecords 0 ≡ 1) × ((nextAfter twoRecords 1 ≡ 2) × (nextAfter twoRecords 2 ≡ 2))
+unfolding nextAfter badFile recordOf
+goes-on = (refl, (refl, refl))
+
+whole-file : badFile twoRecords ≡ false
+unfolding badFile recordOf
+whole-file = refl
+
+abbrev walkAt : RefT (List ℕ) → ℕ → Walk
+walkAt lent zero = record { file = lent; next = 0 }
+walkAt lent (suc zero) = record { file = lent; next = 1 }
+walkAt lent (suc (suc k)) = record { file = lent; next = 2 }
+
+abbrev reachedAt : ℕ → Reached
+reachedAt zero = Message (record { place = 2; size = 21 })
+reachedAt (suc zero) = Bad BadLength
+reachedAt (suc (suc k)) = End
+
+walks-on : (lent : RefT (List ℕ)) → now lent ≡ twoRecords → (k : ℕ) → Walks (walkAt lent k) (reachedAt k) (walkAt lent (suc k))
+walks-on lent e zero = rw e (sym good-step, (refl, sym (goes-on .0)))
+walks-on lent e (suc zero) = rw e (sym bad-step, (refl, sym (goes-on .1 .0)))
+walks-on lent e (suc (suc k)) = rw e (sym last-step, (refl, sym (goes-on .1 .1)))
+
+pub two-records-walk : (lent : RefT (List ℕ)) → now lent ≡ twoRecords → InOrder (now lent) reachedAt
+two-records-walk lent e =
+    file-walks-in-order lent (walkAt lent) reachedAt (record { fresh = (refl, refl); steps = walks-on lent e }) (rw e whole-file)
 
 pub one-byte-stays : (lent : RefT (List ℕ)) → now lent ≡ 7 ∷ [] → (k : ℕ) → toldReached NotAFile ≡ step.refused (plainly 21)
 unfolding stepAt nextAfter badFile

@@ -1,4 +1,4 @@
--- The starred cases a to m of document 01 as one table about the definitions, with all that it says of each.
+-- The starred cases a to m of document 01 as one table about the definitions, with all that it says of each. RULES 9.
 -- Beside them one accepted message of kind CRC. The checker computes every line, in proofs/Cases.
 use Prim.Native.Nat.{ℕ, _+_}
 use mathlib.Core.Bool.{true}

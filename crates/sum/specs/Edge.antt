@@ -1,4 +1,4 @@
--- What sums rule out at the end of the bytes: up to four neighbouring bytes, of which some are the last ones summed and the others the first of the sum.
+-- What sums rule out at the end of the bytes: up to four neighbouring bytes, of which some are the last ones summed and the others the first of the sum. RULES 6.
 -- A sum is written highest byte first, so behind n bytes summed stand the 4 - n highest of the sum. Proofs in proofs/Edge.antt.
 use mathlib.Core.Path.{_≡_}
 use mathlib.Core.List.{List, [], _∷_, _++_}

@@ -1,4 +1,4 @@
--- What sums rule out bit by bit: up to 506 bytes and their sum never differ in one, two or three bits alone.
+-- What sums rule out bit by bit: up to 506 bytes and their sum never differ in one, two or three bits alone. RULES 6.
 -- The statement is a type over the number of bits; its proof for three stands in proofs/Flips.antt, and for four it is false (sheet/FourBits).
 use mathlib.Core.Bool.{cond}
 use mathlib.Core.Path.{_≡_}
