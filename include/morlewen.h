@@ -2,8 +2,9 @@
  * the Class D frames that carry them (AAR S-9356), for C and C++.
  *
  * Link libexports.a (README.md says how it is built). The source of each function is proved to give one answer to any input, and
- * to end; that the answer is the one told here is tested, against a program written from this header. None allocates, prints,
- * keeps state or touches a file, so all may be called from several threads. docs/RULES.md has the rules behind the numbers.
+ * to end; that the answer is the one told here is tested, against a program written from the documents and from this header
+ * (docs/DECISIONS.md says where not from them alone). None allocates, prints, keeps state or touches a file, so all may be called
+ * from several threads, on storage of their own. docs/RULES.md has the rules behind the numbers.
  *
  * What the caller owes, since C cannot check it:
  *   - a pointer and the length behind it describe memory that is yours to read (const) or to write, and that nothing
@@ -38,7 +39,8 @@ static inline unsigned morlewen_count(uint64_t answer) { return (unsigned)(answe
 static inline uint32_t morlewen_value(uint64_t answer) { return (uint32_t)(answer >> 32); }
 
 /* The refusals. Where several apply to one message, record or frame, the one that stands first here is given, but by a feed the
- * one that its bytes settle first. Of several records the first bad one decides, whatever is wrong with those behind it. */
+ * one that its bytes settle first. Of the records that a call opens the first bad one decides: morlewen_check opens all,
+ * morlewen_find stops at a match, and the others open the one that they are asked for. */
 enum {
     MORLEWEN_DONE = 0,
     /* reading a message */
