@@ -1,4 +1,4 @@
--- Rule 6: source and destination, each with its closing zero, are exactly the region, the V - 4 bytes after TTL and QoS. RULES 1.
+-- Rule 6: source and destination, each with its closing zero, are exactly the region, the V - 4 bytes after TTL and QoS. RULES 1 and 2.
 -- Laws in proofs/AddressLaws: a scan for zeros decides it, and a region splits at one place at most.
 use Prim.Native.Nat.{ℕ, zero, suc, _+_, _-_}
 use mathlib.Core.Bool.{Bool, false, cond, not, _&&_, _||_}

@@ -1,4 +1,4 @@
--- What the first 17 bytes say by themselves: rules 2 to 4, and the length that they announce. RULES 1.
+-- What the first 17 bytes say by themselves: rules 2 to 4, and the length that they announce. RULES 1 and 2.
 -- Laws in proofs/HeadingLaws: both depend on those bytes alone.
 use Prim.Native.Nat.{ℕ, _+_}
 use mathlib.Core.Bool.{Bool, cond, not, _&&_, _||_}

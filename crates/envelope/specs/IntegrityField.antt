@@ -1,4 +1,4 @@
--- Rule 7: what the integrity field may hold, by its kind. RULES 1.
+-- Rule 7: what the integrity field may hold, by its kind. RULES 2.
 -- The kind and the field's place are parameters, so that a second reader can cite the rule by itself.
 use Prim.Native.Nat.{ℕ}
 use mathlib.Core.Bool.{Bool, false, cond, not}

@@ -1,4 +1,4 @@
--- A whole stream, byte by byte through any number of messages: the messages found on the way, how many bytes were used, and the state at the end.
+-- A whole stream, byte by byte through any number of messages: the messages found on the way, how many bytes were used, and the state at the end. RULES 7.
 -- After a refusal no byte is used, so the number says where in the stream it was told.
 use Prim.Native.Nat.{ℕ, _+_}
 use mathlib.Core.List.{List, [], _∷_, _++_}

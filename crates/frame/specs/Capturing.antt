@@ -1,4 +1,4 @@
--- A capture: frames end to end, with nothing between them. Its first frame is as long as its header states.
+-- A capture: frames end to end, with nothing between them. Its first frame is as long as its header states. RULES 8.
 -- Where fewer bytes are there than that, or too few for any frame, it is all that there is, and unwrapping refuses it.
 use Prim.Native.Nat.{ℕ, zero, suc, _+_, _≤_, _<_}
 use mathlib.Core.Bool.{Bool, true, false, cond}

@@ -1,4 +1,4 @@
--- A refusal of a frame: its number alone, or its number with the refusal of reading, passed on whole.
+-- A refusal of a frame: its number alone, or its number with the refusal of reading, passed on whole. RULES 8.
 use Prim.Native.Nat.{ℕ}
 use mathlib.Core.Path.{_≡_}
 use Rattle.envelope.specs.Fields.{Refusal}

@@ -1,4 +1,4 @@
--- Numbers put into a lent list from its front on, as far as it has room; the places beyond keep what they had.
+-- Numbers put into a lent list from its front on, as far as it has room; the places beyond keep what they had. RULES 5.
 -- A short list is no refusal.
 use Prim.Native.Nat.{ℕ, zero, suc, _+_}
 use mathlib.Core.Bool.{Bool, cond}

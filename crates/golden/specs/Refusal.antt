@@ -1,4 +1,4 @@
--- A refusal of the golden file: its number, and the number that reading gave, or 0 where reading had no part in it.
+-- A refusal of the golden file: its number, and the number that reading gave, or 0 where reading had no part in it. RULES 5.
 -- The code's faults are told in these.
 use Prim.Native.Nat.{ℕ}
 use mathlib.Core.Path.{_≡_}
