@@ -5,16 +5,16 @@ use mathlib.Core.List.{List, [], _∷_, _++_}
 use mathlib.Core.Path.{_≡_, refl, ap, ap₂, sym, _∙_}
 use Prim.Native.Nat.{ℕ, _+_, _≤_, _<_}
 use native.Mathlib.Omega.{arith}
-use borrow.Author.Tests.{le-ltb, lt-ltb, ltb-true, ltb-false}
+use borrow.Author.Tests.{le-ltb, lt-ltb, ltb-false}
 use lib.Dec.{ltb}
 use lib.ListN.{length, length-append, List·getD-append}
 use lib.Seq.{take-append-seam, drop-append-seam}
 use Rattle.envelope.proofs.RuleLaws.{fourAt-is}
-use Rattle.envelope.specs.Numbers.{byteAt, fourBytes, fourAt}
+use Rattle.envelope.specs.Numbers.{byteAt, fourBytes}
 use Rattle.frame.specs.Capturing.{smaller, firstSize, isFrame, endToEnd, takenApart, FirstIsTheFrame, CaptureComesApart, MissingIsRefused, FirstIsThere}
 use Rattle.frame.specs.Layout.{lengthPlace, leastSize}
 use Rattle.frame.specs.Unwrapping.{typeOf, dataLength, unwrapping}
-use Rattle.frame.proofs.UnwrapLaws.{length-whole, Opened, opened}
+use Rattle.frame.proofs.UnwrapLaws.{length-whole, opened}
 
 front-byte : (s rest : List ℕ) (i : ℕ) → i < length s → byteAt (s ++ rest) i ≡ byteAt s i
 front-byte s rest i h = List·getD-append s rest 0 i h

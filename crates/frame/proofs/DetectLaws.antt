@@ -10,15 +10,15 @@ use lib.Seq.{ext-getD, getD-take, getD-drop}
 use Rattle.envelope.proofs.DemandLaws.{bytes-take, bytes-drop, demand-3}
 use Rattle.envelope.proofs.ReadingLaws.{accepted-least}
 use Rattle.envelope.proofs.TwoBitsLaws.{two-bits-anywhere, three-bits-anywhere}
-use Rattle.envelope.specs.Demand3.{DeclaresCrc, Window, before, field, SameOutside}
-use Rattle.envelope.specs.Fields.{Span, partOf, accepted}
+use Rattle.envelope.specs.Demand3.{DeclaresCrc, Window, before, field}
+use Rattle.envelope.specs.Fields.{Span, partOf}
 use Rattle.envelope.specs.Layout as envelope
 use Rattle.envelope.specs.Numbers.{byteAt}
 use Rattle.envelope.specs.Promise.{Bytes}
 use Rattle.envelope.specs.Reading.{reading}
 use Rattle.frame.specs.Detecting.{CarriesCrc, carriedMessage, FrameDemand3, FrameTwoBits, FrameThreeBits}
 use Rattle.frame.specs.Layout.{bodyPlace, leastSize}
-use Rattle.frame.specs.Unwrapping.{typeOf, dataLength, bodySpan}
+use Rattle.frame.specs.Unwrapping.{typeOf, dataLength}
 use Rattle.frame.proofs.RoundTripLaws.{body-length, Carried, carried}
 use Rattle.frame.proofs.UnwrapLaws.{length-whole}
 

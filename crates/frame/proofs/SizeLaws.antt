@@ -1,23 +1,22 @@
 -- The sizes of what is unwrapped and of what is written, by the longest message that the envelope accepts.
 use mathlib.Core.Bool.{Bool, true, false, cond}
 use mathlib.Core.List.{List}
-use mathlib.Core.Path.{_≡_, refl, ap, sym, subst, _∙_}
+use mathlib.Core.Path.{_≡_, refl, ap, sym, _∙_}
 use Prim.Native.Nat.{ℕ, _+_, _≤_}
 use native.Mathlib.Omega.{arith}
 use lib.Dec.{ltb}
 use lib.ListN.{length, drop}
 use Rattle.envelope.proofs.DemandLaws.{bytes-take, bytes-drop}
 use Rattle.envelope.proofs.ReadingLaws.{accepted-most}
-use Rattle.envelope.specs.Fields.{Span, Fields, Answer, accepted, refused, partOf}
+use Rattle.envelope.specs.Fields.{Span, Answer, accepted, refused, partOf}
 use Rattle.envelope.specs.Layout.{largestMessage}
 use Rattle.envelope.specs.Message.{inFour}
-use Rattle.envelope.specs.Promise.{Bytes}
 use Rattle.envelope.specs.Reading.{reading}
 use Rattle.frame.specs.Frames.{dataFrame, acknowledgmentFrame}
 use Rattle.frame.specs.Layout.{leastSize, dataType, acknowledgmentType}
 use Rattle.frame.specs.Refusal.{plainly}
 use Rattle.frame.specs.Sizes.{messageSize, wroteLength, WrapTellsItsLength, AcknowledgeTellsItsLength, UnwrapsNoLonger, WrapsNoLonger, AcknowledgesNoLonger}
-use Rattle.frame.specs.Unwrapping.{bodySpan, UnwrapAnswer, message, acknowledgment, declined, unwrapping}
+use Rattle.frame.specs.Unwrapping.{UnwrapAnswer, message, acknowledgment, declined, unwrapping}
 use Rattle.frame.specs.Wrapping.{wrote, answerOf, wrapping, acknowledging}
 use Rattle.frame.specs.Wrapping as wrap
 use Rattle.frame.proofs.PutLaws.{frame-length}

@@ -1,4 +1,5 @@
 -- A refusal of a frame: its number alone, or its number with the refusal of reading, passed on whole. RULES 8.
+-- 69 is in the definition of wrapping alone: no fault of the code has it, since it cannot occur.
 use Prim.Native.Nat.{ℕ}
 use mathlib.Core.Path.{_≡_}
 use Rattle.envelope.specs.Fields.{Refusal}

@@ -1,5 +1,4 @@
 // A capture: frames end to end, and where the first of them ends.
-ghost use mathlib.Core.Path.{_≡_};
 ghost use Rattle.frame.specs.Capturing.{MeasuresFirst};
 use crate::layout;
 use crate::unwrapper::four_at;
