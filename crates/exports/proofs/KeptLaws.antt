@@ -1,7 +1,7 @@
 -- A refusal leaves what was lent as it was. Each answer that writes has the number 0 in its word.
 use mathlib.Core.Bool.{Bool, true, false, cond}
 use mathlib.Core.List.{List}
-use mathlib.Core.Path.{_≡_, refl, ap, sym, _∙_}
+use mathlib.Core.Path.{_≡_, refl, ap, _∙_}
 use Prim.Native.Nat.{ℕ, _-_, _%_}
 use native.Mathlib.Omega.{arith}
 use lib.Dec.{eqb}
@@ -25,10 +25,10 @@ use Rattle.golden.specs.Stepping.{StepAnswer, end, stepAt, nextAfter}
 use Rattle.golden.specs.Stepping as step
 use Rattle.exports.specs.Envelopes.{readSlots, fieldsAfter, writeSlots, rewriteSlots}
 use Rattle.exports.specs.Feeds.{Lent, foundSlots, fieldsFound, takingFor}
-use Rattle.exports.specs.Frames.{FrameLent, unwrapSlots, lentAfterUnwrapping, wrapSlots, WritesFrameForC}
+use Rattle.exports.specs.Frames.{FrameLent, unwrapSlots, lentAfterUnwrapping, WritesFrameForC}
 use Rattle.exports.specs.Goldens.{lineSlots, lineAfter, stepSlots, partAfter, compareSlots, makeSlots}
 use Rattle.exports.specs.Kept.{IsRefusal, KeptOnRefusal, ReadKeeps, WriteKeeps, RewriteKeeps, LineKeeps, StepKeeps, CompareKeeps, MakeKeeps, UnwrapKeeps, WrapKeeps, AcknowledgeKeeps, TakeKeepsFields}
-use Rattle.exports.specs.Word.{Slots, word, unword}
+use Rattle.exports.specs.Word.{Slots, word}
 
 -- an answer with the number 0 is no refusal
 no-refusal : (s : Slots) (r : ℕ) → s .number ≡ 0 → r ≡ word s → IsRefusal r → ⊥

@@ -7,16 +7,16 @@ use Prim.Native.Nat.{ℕ, zero, suc, _+_, _≤_, _<_}
 use native.Mathlib.Decide.{decLt}
 use native.Mathlib.Omega.{arith}
 use borrow.Author.Tests.{eqb-true, ne-eqb, not-false, leb-false, lt-ltb, le-ltb}
-use lib.Dec.{eqb, leb, ltb}
+use lib.Dec.{eqb, leb}
 use lib.ListN.{length, getD}
 use lib.Seq.{ext-getD}
 use Rattle.envelope.proofs.BoolLaws.{neither}
-use Rattle.envelope.specs.Fields.{Fields, Answer, accepted}
+use Rattle.envelope.specs.Fields.{Answer, accepted}
 use Rattle.envelope.specs.Fields as envelope
 use Rattle.envelope.specs.Reading.{reading}
-use Rattle.golden.specs.Checking.{CheckAnswer, counted, unlessBad, checkFrom, checking}
+use Rattle.golden.specs.Checking.{unlessBad, checkFrom, checking}
 use Rattle.golden.specs.Checking as check
-use Rattle.golden.specs.Comparing.{differsAt, longer, differing, properBeginning, Outcome, positions, declined, comparingMessages, withRadio, withRecord, comparing, CompareAnswer, same, different, unlike, answerOf}
+use Rattle.golden.specs.Comparing.{differsAt, longer, differing, properBeginning, Outcome, positions, declined, comparingMessages, withRadio, withRecord, comparing, same, different, answerOf}
 use Rattle.golden.specs.File.{badFile, countOf, notThere, recordAt, judgedAt}
 use Rattle.golden.specs.Positions.{select}
 use Rattle.golden.specs.Record.{Judged, good, bad, messageOf}

@@ -2,7 +2,6 @@
 -- Whatever else such an answer says: what is refuted is one verdict or one number of it.
 use mathlib.Core.List.{[], _∷_, _++_}
 use mathlib.Core.Path.{_≡_, ap, sym, _∙_}
-use Prim.Native.Nat.{ℕ}
 use lib.ListN.{length, take, set}
 use Rattle.sum.specs.Vectors.{digits}
 use Rattle.envelope.specs.Heading.{announced}
