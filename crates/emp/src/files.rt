@@ -7,7 +7,7 @@ use golden::Record;
 use libc::STDERR_FILENO;
 
 // The most bytes that are taken from a file, and a byte more, so that a longer file is seen to be longer.
-pub const MOST: usize = Record::FILE;
+pub const MOST: usize = Record::LARGEST_FILE;
 
 pub const ROOM: usize = MOST + 1;
 

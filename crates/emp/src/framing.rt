@@ -19,7 +19,7 @@ use frame::Wrapped;
 use frame::acknowledge;
 use frame::first;
 use frame::layout::ACKNOWLEDGMENT_SIZE;
-use frame::layout::LEAST;
+use frame::layout::LEAST_SIZE;
 use frame::unwrap;
 use frame::wrap;
 

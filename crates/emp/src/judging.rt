@@ -17,9 +17,6 @@ use judge::Verdict;
 use judge::divide;
 use judge::judge;
 
-// The smallest variable header: TTL, QoS and two closing zeros.
-const LEAST_VARIABLE: usize = 6;
-
 // The kind whose field is a CRC.
 const KIND_CRC: u64 = 1;
 
@@ -72,7 +69,7 @@ fn show_first_four(message: &[u8], judging: Judging) {
         b"rule 4, the variable header size (V) is 0, or 6 to 132: V is #\n",
         variable_size,
         length,
-        Envelope::HEADER,
+        Envelope::HEADER_SIZE,
         &[byte_at(message, Envelope::VARIABLE_SIZE_PLACE) as u64],
     );
 }
@@ -93,13 +90,13 @@ fn show_last_three(message: &[u8], judging: Judging) {
         byte_at(message, Envelope::DATA_LENGTH_PLACE + 1),
         byte_at(message, Envelope::DATA_LENGTH_PLACE + 2),
     ) as usize;
-    let field = Envelope::HEADER + v + d;
-    let end = field + Envelope::FIELD;
+    let field = Envelope::HEADER_SIZE + v + d;
+    let end = field + Envelope::FIELD_SIZE;
     show_rule(
         b"rule 5, 17 + V + the data length + 4 is the length of the message: 17 + # + # + 4 is #, it has #\n",
         length,
         message.len(),
-        Envelope::HEADER,
+        Envelope::HEADER_SIZE,
         &[v as u64, d as u64, end as u64, message.len() as u64],
     );
     show_addresses(message, addresses, v);
@@ -109,7 +106,7 @@ fn show_last_three(message: &[u8], judging: Judging) {
 // An address is counted with its closing zero.
 fn show_addresses(message: &[u8], verdict: Verdict, v: usize) {
     let needed = needed_for_addresses(v);
-    let region = behind(front(message, needed), Envelope::ADDRESSES);
+    let region = behind(front(message, needed), Envelope::ADDRESSES_PLACE);
     let source = through(region, 0);
     let rest = behind(region, source);
     let destination = through(rest, 0);
@@ -125,13 +122,13 @@ fn show_addresses(message: &[u8], verdict: Verdict, v: usize) {
 
 // The bytes up to the variable header's end; for a V that is not 6 to 132, those that tell so.
 fn needed_for_addresses(v: usize) -> usize {
-    if v < LEAST_VARIABLE {
-        return Envelope::HEADER;
+    if v < Envelope::SMALLEST_VARIABLE {
+        return Envelope::HEADER_SIZE;
     }
-    if Envelope::VARIABLE < v {
-        return Envelope::HEADER;
+    if Envelope::LARGEST_VARIABLE < v {
+        return Envelope::HEADER_SIZE;
     }
-    Envelope::HEADER + v
+    Envelope::HEADER_SIZE + v
 }
 
 fn show_integrity(message: &[u8], verdict: Verdict, place: usize, end: usize) {

@@ -62,7 +62,7 @@ pub struct Layout {
 pub fn field_at(layout: Layout, place: usize) -> Field
     ensures { λ r. ⌜ LiesIn layout place r ⌝ }
 {
-    if place < Envelope::HEADER {
+    if place < Envelope::HEADER_SIZE {
         return header_field(place);
     }
     if place < layout.body {
@@ -72,7 +72,7 @@ pub fn field_at(layout: Layout, place: usize) -> Field
     if in_body < layout.body_size {
         return Field::Body;
     }
-    if in_body - layout.body_size < Envelope::FIELD {
+    if in_body - layout.body_size < Envelope::FIELD_SIZE {
         return Field::Integrity;
     }
     Field::Beyond
@@ -111,7 +111,7 @@ fn variable_field(destination: usize, place: usize) -> Field
     if place < Envelope::QOS_PLACE {
         return Field::Ttl;
     }
-    if place < Envelope::ADDRESSES {
+    if place < Envelope::ADDRESSES_PLACE {
         return Field::Qos;
     }
     if place < destination {
@@ -125,8 +125,8 @@ pub fn layout_of(message: &[u8]) -> Layout {
     match read(message) {
         Reading::Accepted(accepted) => layout_in(accepted),
         Reading::Refused(_) => Layout {
-            destination: Envelope::HEADER,
-            body: Envelope::HEADER,
+            destination: Envelope::HEADER_SIZE,
+            body: Envelope::HEADER_SIZE,
             body_size: 0,
         },
     }

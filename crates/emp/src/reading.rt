@@ -59,7 +59,7 @@ fn show_fields(accepted: Envelope, message: &[u8]) {
 }
 
 fn show_front(header: Header, integrity: Integrity) {
-    text_number(b"\nheader version        ", Envelope::VERSION as u64);
+    text_number(b"\nheader version        ", Envelope::HEADER_VERSION as u64);
     text_number(b"\nmessage type          ", header.message_type as u64);
     text_number(b"\nmessage version       ", header.version as u64);
     show_flags(header.flags, integrity);

@@ -13,7 +13,7 @@ use lib.ListN.{length, take, drop, length-drop, take-append-drop}
 use lib.Seq.{length-take-le, take-all}
 use Rattle.envelope.specs.Addresses.{endsInItsOnlyZero, isAddress, splitsAt, splitsUpTo, twoAddresses, firstZero, sourceSize, destinationSize, regionOf, badAddresses}
 use Rattle.envelope.specs.Helpers.{unless, Sizes, sizes}
-use Rattle.envelope.specs.Layout.{headerSize, routingSize, addressesPlace, largestAddress}
+use Rattle.envelope.specs.Layout.{headerSize, routingSize, smallestVariable, addressesPlace, largestAddress}
 use Rattle.envelope.proofs.BoolLaws.{both, either, is-false, same-test, missing, kept}
 use Rattle.envelope.proofs.ZeroLaws.{zero-in-front, zero-of-front}
 
@@ -133,18 +133,18 @@ destination-is region a b ea eb =
 abbrev lent : List ℕ → ℕ → List ℕ
 lent s v = take (headerSize + v - addressesPlace) (drop addressesPlace s)
 
-lent-is : (s : List ℕ) (v : ℕ) → 6 ≤ v → lent s v ≡ regionOf s v
+lent-is : (s : List ℕ) (v : ℕ) → smallestVariable ≤ v → lent s v ≡ regionOf s v
 lent-is s v h =
     let e : headerSize + v - addressesPlace ≡ v - routingSize = omega arith in
     ap (λ (k : ℕ). take k (drop addressesPlace s)) e
 
 -- rule 6 of a variable header that is there
-pub addresses-present : (s : List ℕ) (v : ℕ) → 6 ≤ v → badAddresses s v ≡ not (twoAddresses (lent s v))
+pub addresses-present : (s : List ℕ) (v : ℕ) → smallestVariable ≤ v → badAddresses s v ≡ not (twoAddresses (lent s v))
 unfolding badAddresses
 addresses-present s v h = rw (ne-eqb v 0 (λ z. omega arith), ← lent-is s v h)
 
-pub ends-broken : (s : List ℕ) (v : ℕ) → 6 ≤ v → none ≡ unless (not (twoAddresses (lent s v))) (sizes (lent s v)) → badAddresses s v ≡ true
-ends-broken s v h e = addresses-present s v h ∙ missing (not (twoAddresses (lent s v))) (sizes (lent s v)) e
+pub ends-refused : (s : List ℕ) (v : ℕ) → smallestVariable ≤ v → none ≡ unless (not (twoAddresses (lent s v))) (sizes (lent s v)) → badAddresses s v ≡ true
+ends-refused s v h e = addresses-present s v h ∙ missing (not (twoAddresses (lent s v))) (sizes (lent s v)) e
 
 -- two sizes that were found: the rule is kept, and they are the definition's
 pub record Found (s : List ℕ) (v a b : ℕ) : Type 0 where
@@ -153,7 +153,7 @@ pub record Found (s : List ℕ) (v a b : ℕ) : Type 0 where
   pub destination : b ≡ destinationSize (regionOf s v)
   pub small : a < largestAddress
 
-pub ends-found : (s : List ℕ) (v a b : ℕ) → 6 ≤ v
+pub ends-found : (s : List ℕ) (v a b : ℕ) → smallestVariable ≤ v
     → some (record { source = a; destination = b }) ≡ unless (not (twoAddresses (lent s v))) (sizes (lent s v)) → Found s v a b
 ends-found s v a b h e =
     let k = kept (not (twoAddresses (lent s v))) (sizes (lent s v)) (record { source = a; destination = b }) e in

@@ -13,7 +13,7 @@ use Rattle.sum.specs.Promise.{Only₁}
 use Rattle.envelope.specs.Announcing.{AnnouncementAnswer, unfinished, refused, announces, announcedBy, announcing, toldAnnouncement, Announces}
 use Rattle.envelope.specs.Fields.{Fields, Refusal, accepted}
 use Rattle.envelope.specs.Flags.{badFlags}
-use Rattle.envelope.specs.Heading.{flagsOf, variableSize, announced, wrongVersion, badVariableSize, Judged, passed, broken, heading}
+use Rattle.envelope.specs.Heading.{flagsOf, variableSize, announced, wrongVersion, badVariableSize, HeadingAnswer, passed, refused, heading}
 use Rattle.envelope.specs.Layout.{headerSize, leastSize}
 use Rattle.envelope.specs.Reading.{reading}
 use Rattle.envelope.specs.declared.announcer.Announcement.{Announcement}
@@ -46,13 +46,13 @@ announcing-more s t h =
 
 -- ---- by cases
 
-judged-not-unfinished : (j : Judged) (n : ℕ) → announcedBy j n ≡ unfinished → ⊥
+judged-not-unfinished : (j : HeadingAnswer) (n : ℕ) → announcedBy j n ≡ unfinished → ⊥
 judged-not-unfinished passed n e = let z : _≡_ {A = ℕ} 0 1 = cc in omega arith
-judged-not-unfinished (broken k) n e = let z : _≡_ {A = ℕ} 0 1 = cc in omega arith
+judged-not-unfinished (refused k) n e = let z : _≡_ {A = ℕ} 0 1 = cc in omega arith
 
-judged-announces : (j : Judged) (n m : ℕ) → announcedBy j n ≡ announces m → (j ≡ passed) × (n ≡ m)
+judged-announces : (j : HeadingAnswer) (n m : ℕ) → announcedBy j n ≡ announces m → (j ≡ passed) × (n ≡ m)
 judged-announces passed n m e = (refl, cc)
-judged-announces (broken k) n m e = (cc, cc)
+judged-announces (refused k) n m e = (cc, cc)
 
 pub unfinished-short : (s : List ℕ) → announcing s ≡ unfinished → length s < headerSize
 unfinished-short s e = go (ltb (length s) headerSize) refl
@@ -104,7 +104,7 @@ pub data HeadingNumber (n : ℕ) : Type 0 where
   as-3 : n ≡ 3 → HeadingNumber n
   as-4 : n ≡ 4 → HeadingNumber n
 
-judged-refused : (a b c : Bool) (n : ℕ) (r : Refusal) → announcedBy (cond a (broken 2) (cond b (broken 3) (cond c (broken 4) passed))) n ≡ refused r
+judged-refused : (a b c : Bool) (n : ℕ) (r : Refusal) → announcedBy (cond a (refused 2) (cond b (refused 3) (cond c (refused 4) passed))) n ≡ refused r
     → HeadingNumber (r .number)
 judged-refused true b c n r e = as-2 (cc)
 judged-refused false true c n r e = as-3 (cc)

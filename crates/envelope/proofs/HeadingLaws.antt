@@ -10,8 +10,8 @@ use lib.Dec.{leb, ltb, eqb}
 use lib.ListN.{take}
 use lib.Seq.{getD-take}
 use Rattle.envelope.specs.Flags.{kindOf, kindUnassigned, badFlags}
-use Rattle.envelope.specs.Heading.{flagsOf, variableSize, dataLength, announced, wrongVersion, badVariableSize, Judged, passed, broken, heading}
-use Rattle.envelope.specs.Layout.{headerSize, fieldSize, largestVariable}
+use Rattle.envelope.specs.Heading.{flagsOf, variableSize, dataLength, announced, wrongVersion, badVariableSize, HeadingAnswer, passed, refused, heading}
+use Rattle.envelope.specs.Layout.{headerSize, fieldSize, smallestVariable, largestVariable}
 use Rattle.envelope.specs.Numbers.{byteAt, threeAt}
 use Rattle.envelope.proofs.BoolLaws.{neither, true-is-not-false}
 
@@ -26,7 +26,7 @@ pub record Passed (s : List ℕ) : Type 0 where
   pub flags : badFlags (flagsOf s) ≡ false
   pub size : badVariableSize (variableSize s) ≡ false
 
-past : (b : Bool) (n : ℕ) (rest : Judged) → cond b (broken n) rest ≡ passed → (b ≡ false) × (rest ≡ passed)
+past : (b : Bool) (n : ℕ) (rest : HeadingAnswer) → cond b (refused n) rest ≡ passed → (b ≡ false) × (rest ≡ passed)
 past true n rest e = (cc, cc)
 past false n rest e = (refl, e)
 
@@ -50,17 +50,17 @@ kind-assigned flags e =
     omega arith
 
 -- a size that is not refused is 0, or 6 to 132
-pub size-least : (v : ℕ) → badVariableSize v ≡ false → (v ≡ 0 → ⊥) → 6 ≤ v
+pub size-least : (v : ℕ) → badVariableSize v ≡ false → (v ≡ 0 → ⊥) → smallestVariable ≤ v
 unfolding badVariableSize
-size-least v e n = go (leb v 5) refl
+size-least v e n = go (ltb v smallestVariable) refl
   where
-    go : (b : Bool) → leb v 5 ≡ b → 6 ≤ v
+    go : (b : Bool) → ltb v smallestVariable ≡ b → smallestVariable ≤ v
     go true q = absurd (true-is-not-false refl (rw (le-leb 1 v (omega arith), q) at e))
-    go false q = omega (arith, leb-false v 5 q)
+    go false q = omega (arith, ltb-false v smallestVariable q)
 
 pub size-most : (v : ℕ) → badVariableSize v ≡ false → v ≤ largestVariable
 unfolding badVariableSize
-size-most v e = ltb-false largestVariable v (neither (leb 1 v && leb v 5) (ltb largestVariable v) e .1)
+size-most v e = ltb-false largestVariable v (neither (leb 1 v && ltb v smallestVariable) (ltb largestVariable v) e .1)
 
 -- ---- the first 17 bytes alone
 

@@ -13,7 +13,7 @@ use Rattle.sum.specs.Detection.{Bytes}
 use Rattle.envelope.specs.Addresses.{badAddresses}
 use Rattle.envelope.specs.Fields.{IntegrityFields, none, crc, application, Fields, Refusal, Answer, accepted, refusal}
 use Rattle.envelope.specs.Flags.{kindOf, kindNone, kindCrc, kindApplication, kindUnassigned, badFlags}
-use Rattle.envelope.specs.Heading.{flagsOf, variableSize, dataLength, fieldPlace, announced, wrongVersion, badVariableSize, Judged, passed, broken, heading}
+use Rattle.envelope.specs.Heading.{flagsOf, variableSize, dataLength, fieldPlace, announced, wrongVersion, badVariableSize, HeadingAnswer, passed, refused, heading}
 use Rattle.envelope.specs.IntegrityField.{badIntegrity}
 use Rattle.envelope.specs.Layout.{typePlace, numberPlace, leastSize, fieldSize, largestBody, largestMessage}
 use Rattle.envelope.specs.Numbers.{twoAt, threeAt, fourAt}
@@ -34,8 +34,8 @@ past : (b : Bool) (n : ℕ) (rest : Answer) (f : Fields) → cond b (refusal n) 
 past true n rest f e = (cc, cc)
 past false n rest f e = (refl, e)
 
-past-heading : (j : Judged) (rest : Answer) (f : Fields) → after j rest ≡ accepted f → (j ≡ passed) × (rest ≡ accepted f)
-past-heading (broken n) rest f e = (cc, cc)
+past-heading : (j : HeadingAnswer) (rest : Answer) (f : Fields) → after j rest ≡ accepted f → (j ≡ passed) × (rest ≡ accepted f)
+past-heading (refused n) rest f e = (cc, cc)
 past-heading passed rest f e = (refl, e)
 
 same-fields : (f g : Fields) → accepted f ≡ accepted g → g ≡ f
@@ -113,7 +113,7 @@ whole-not-1 false false true f e = apart-number 7 1 tt e
 whole-not-1 false false false f e = let z : _≡_ {A = ℕ} 0 1 = cc in omega arith
 
 heading-not-1 : (a b c : Bool) (rest : Answer) → (rest ≡ refusal 1 → ⊥)
-    → after (cond a (broken 2) (cond b (broken 3) (cond c (broken 4) passed))) rest ≡ refusal 1 → ⊥
+    → after (cond a (refused 2) (cond b (refused 3) (cond c (refused 4) passed))) rest ≡ refusal 1 → ⊥
 heading-not-1 true b c rest h e = apart-number 2 1 tt e
 heading-not-1 false true c rest h e = apart-number 3 1 tt e
 heading-not-1 false false true rest h e = apart-number 4 1 tt e

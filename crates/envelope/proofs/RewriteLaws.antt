@@ -13,10 +13,10 @@ use Rattle.envelope.specs.Fields as fields
 use Rattle.envelope.specs.Layout.{largestMessage}
 use Rattle.envelope.specs.Message.{Given}
 use Rattle.envelope.specs.Reading.{reading}
-use Rattle.envelope.specs.Rewriting.{RewriteAnswer, rewrote, barred, afterReading, rewriting, rewritten, rewroteLength, RewritesNoLonger, unread, toldRewriting, RefusedRewriteWritesNothing}
+use Rattle.envelope.specs.Rewriting.{RewriteAnswer, rewrote, refused, rewritingRead, rewriting, afterRewriting, rewroteLength, RewritesNoLonger, noRoom, toldRewriting, RefusedRewriteWritesNothing}
 use Rattle.envelope.specs.RoundTrips.{applicationNumber, givenBy}
 use Rattle.envelope.specs.Told.{toldPart, toldIntegrity, toldEnvelope}
-use Rattle.envelope.specs.Writing.{Outcome, written, refused, writing, bufferAfter, wrote, answerOf, given, Writes}
+use Rattle.envelope.specs.Writing.{WriteOutcome, written, refused, writing, afterWriting, wrote, writeAnswer, given, Writes}
 use Rattle.envelope.specs.Writing as write
 use Rattle.envelope.specs.declared.fields.Addressing.the-variants.{Absent, Present}
 use Rattle.envelope.specs.declared.fields.Envelope.{Envelope}
@@ -45,51 +45,51 @@ writes-same g h entry exit r e w = subst (λ (x : Given). Writes x entry r exit)
 
 -- ---- the answer and the buffer
 
-wrote-cases : (b : Bool) (s entry : List ℕ) (n : ℕ) → wrote n ≡ answerOf (cond b (refused 15) (written s))
-    → (rewrote n ≡ cond b (barred 15) (rewrote (length s)))
-    × (bufferAfter (cond b (refused 15) (written s)) entry ≡ rewritten (cond b (barred 15) (rewrote (length s))) s entry)
+wrote-cases : (b : Bool) (s entry : List ℕ) (n : ℕ) → wrote n ≡ writeAnswer (cond b (refused 15) (written s))
+    → (rewrote n ≡ cond b (refused noRoom) (rewrote (length s)))
+    × (afterWriting (cond b (refused 15) (written s)) entry ≡ afterRewriting (cond b (refused noRoom) (rewrote (length s))) s entry)
 wrote-cases true s entry n e = (cc, cc)
 wrote-cases false s entry n e = (cc, refl)
 
-barred-cases : (b : Bool) (s entry : List ℕ) (k : ℕ) → write.barred k ≡ answerOf (cond b (refused 15) (written s))
-    → (barred 15 ≡ cond b (barred 15) (rewrote (length s)))
-    × (bufferAfter (cond b (refused 15) (written s)) entry ≡ rewritten (cond b (barred 15) (rewrote (length s))) s entry)
-barred-cases true s entry k e = (refl, refl)
-barred-cases false s entry k e = (cc, cc)
+refused-cases : (b : Bool) (s entry : List ℕ) (k : ℕ) → write.refused k ≡ writeAnswer (cond b (refused 15) (written s))
+    → (refused noRoom ≡ cond b (refused noRoom) (rewrote (length s)))
+    × (afterWriting (cond b (refused 15) (written s)) entry ≡ afterRewriting (cond b (refused noRoom) (rewrote (length s))) s entry)
+refused-cases true s entry k e = (refl, refl)
+refused-cases false s entry k e = (cc, cc)
 
 module _ (s : List ℕ) (f : Fields) (entry exit : List ℕ) (bytes : Bytes s) (accepts : reading s ≡ accepted f)
-    (kept : exit ≡ bufferAfter (writing (givenBy s f) (length entry)) entry) where
+    (kept : exit ≡ afterWriting (writing (givenBy s f) (length entry)) entry) where
   abbrev short : Bool
   short = ltb (length entry) (length s)
 
   outcome : writing (givenBy s f) (length entry) ≡ cond short (refused 15) (written s)
   outcome = written-again s f (length entry) bytes accepts
 
-  rewriting-is : rewriting s (length entry) ≡ cond short (barred 15) (rewrote (length s))
+  rewriting-is : rewriting s (length entry) ≡ cond short (refused noRoom) (rewrote (length s))
   rewriting-is = rw accepts
 
-  pub rewrote-it : (n : ℕ) → wrote n ≡ answerOf (writing (givenBy s f) (length entry))
-      → (rewrote n ≡ rewriting s (length entry)) × (exit ≡ rewritten (rewriting s (length entry)) s entry)
+  pub rewrote-it : (n : ℕ) → wrote n ≡ writeAnswer (writing (givenBy s f) (length entry))
+      → (rewrote n ≡ rewriting s (length entry)) × (exit ≡ afterRewriting (rewriting s (length entry)) s entry)
   rewrote-it n e =
-      let p = wrote-cases short s entry n (e ∙ ap answerOf outcome) in
-      (p .0 ∙ sym rewriting-is, kept ∙ ap (λ (o : Outcome). bufferAfter o entry) outcome ∙ p .1 ∙ ap (λ (a : RewriteAnswer). rewritten a s entry) (sym rewriting-is))
+      let p = wrote-cases short s entry n (e ∙ ap writeAnswer outcome) in
+      (p .0 ∙ sym rewriting-is, kept ∙ ap (λ (o : WriteOutcome). afterWriting o entry) outcome ∙ p .1 ∙ ap (λ (a : RewriteAnswer). afterRewriting a s entry) (sym rewriting-is))
 
-  pub no-room : (k : ℕ) → write.barred k ≡ answerOf (writing (givenBy s f) (length entry))
-      → (barred 15 ≡ rewriting s (length entry)) × (exit ≡ rewritten (rewriting s (length entry)) s entry)
+  pub no-room : (k : ℕ) → write.refused k ≡ writeAnswer (writing (givenBy s f) (length entry))
+      → (refused noRoom ≡ rewriting s (length entry)) × (exit ≡ afterRewriting (rewriting s (length entry)) s entry)
   no-room k e =
-      let p = barred-cases short s entry k (e ∙ ap answerOf outcome) in
-      (p .0 ∙ sym rewriting-is, kept ∙ ap (λ (o : Outcome). bufferAfter o entry) outcome ∙ p .1 ∙ ap (λ (a : RewriteAnswer). rewritten a s entry) (sym rewriting-is))
+      let p = refused-cases short s entry k (e ∙ ap writeAnswer outcome) in
+      (p .0 ∙ sym rewriting-is, kept ∙ ap (λ (o : WriteOutcome). afterWriting o entry) outcome ∙ p .1 ∙ ap (λ (a : RewriteAnswer). afterRewriting a s entry) (sym rewriting-is))
 
 -- ---- how long an answer can be
 
 pub rewrites-no-longer : RewritesNoLonger
 rewrites-no-longer s room bytes = go (reading s) refl
   where
-    fits : (b : Bool) → length s ≤ largestMessage → rewroteLength (cond b (barred 15) (rewrote (length s))) ≤ largestMessage
+    fits : (b : Bool) → length s ≤ largestMessage → rewroteLength (cond b (refused noRoom) (rewrote (length s))) ≤ largestMessage
     fits true h = omega arith
     fits false h = h
 
-    go : (a : Answer) → reading s ≡ a → rewroteLength (afterReading a s room) ≤ largestMessage
+    go : (a : Answer) → reading s ≡ a → rewroteLength (rewritingRead a s room) ≤ largestMessage
     go (fields.refused r) e = omega arith
     go (accepted f) e = fits (ltb room (length s)) (accepted-most s f bytes e)
 
@@ -98,7 +98,6 @@ rewrites-no-longer s room bytes = go (reading s) refl
 pub refused-rewrite-writes-nothing : RefusedRewriteWritesNothing
 refused-rewrite-writes-nothing s entry exit r p h = go (rewriting s (length entry)) (p .0) (p .1)
   where
-    go : (a : RewriteAnswer) → toldRewriting r ≡ a → exit ≡ rewritten a s entry → exit ≡ entry
+    go : (a : RewriteAnswer) → toldRewriting r ≡ a → exit ≡ afterRewriting a s entry → exit ≡ entry
     go (rewrote n) e x = absurd (h n e)
-    go (unread q) e x = x
-    go (barred n) e x = x
+    go (refused n) e x = x

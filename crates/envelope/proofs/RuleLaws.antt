@@ -5,16 +5,16 @@ use mathlib.Core.List.{List}
 use mathlib.Core.Path.{_≡_, refl, ap}
 use Prim.Native.Nat.{ℕ, _≤_, _<_, _+_, _/_}
 use native.Mathlib.Omega.{arith}
-use borrow.Author.Tests.{eq-eqb, ne-eqb, le-leb, lt-leb}
+use borrow.Author.Tests.{eq-eqb, ne-eqb, le-leb, lt-ltb, le-ltb}
 use lib.Dec.{eqb, ltb}
 use lib.ListN.{take}
 use Rattle.sum.specs.Crc.{crc32}
 use Rattle.envelope.specs.Addresses.{badAddresses}
 use Rattle.envelope.specs.Fields.{Answer, accepted, refusal}
 use Rattle.envelope.specs.Flags.{kindOf, kindNone, kindCrc, kindUnassigned, badFlags}
-use Rattle.envelope.specs.Heading.{flagsOf, variableSize, fieldPlace, wrongVersion, badVariableSize, passed, broken, heading}
+use Rattle.envelope.specs.Heading.{flagsOf, variableSize, fieldPlace, wrongVersion, badVariableSize, passed, refused, heading}
 use Rattle.envelope.specs.IntegrityField.{badIntegrity}
-use Rattle.envelope.specs.Layout.{largestVariable}
+use Rattle.envelope.specs.Layout.{smallestVariable, largestVariable}
 use Rattle.envelope.specs.Numbers.{byteAt, threeBytes, fourBytes, threeAt, fourAt}
 use Rattle.envelope.specs.Reading.{tooShort, wrongLength, fieldsOf, readingWhole, after, reading}
 
@@ -44,13 +44,13 @@ pub size-absent : (v : ℕ) → v ≡ 0 → badVariableSize v ≡ false
 unfolding badVariableSize
 size-absent v e = rw e
 
-pub size-small : (v : ℕ) → 1 ≤ v → v ≤ 5 → badVariableSize v ≡ true
+pub size-small : (v : ℕ) → 1 ≤ v → v < smallestVariable → badVariableSize v ≡ true
 unfolding badVariableSize
-size-small v h k = rw (le-leb 1 v h, le-leb v 5 k)
+size-small v h k = rw (le-leb 1 v h, lt-ltb v smallestVariable k)
 
-pub size-large : (v : ℕ) → 5 < v → badVariableSize v ≡ ltb largestVariable v
+pub size-large : (v : ℕ) → smallestVariable ≤ v → badVariableSize v ≡ ltb largestVariable v
 unfolding badVariableSize
-size-large v h = rw (le-leb 1 v (omega arith), lt-leb v 5 h)
+size-large v h = rw (le-leb 1 v (omega arith), le-ltb v smallestVariable h)
 
 -- ---- rule 6; where there are addresses, AddressLaws has it
 
@@ -76,7 +76,7 @@ module _ (s : List ℕ) (kind place : ℕ) where
 -- ---- the table
 
 after-heading : (a b c : Bool) (rest : Answer)
-    → after (cond a (broken 2) (cond b (broken 3) (cond c (broken 4) passed))) rest
+    → after (cond a (refused 2) (cond b (refused 3) (cond c (refused 4) passed))) rest
     ≡ cond a (refusal 2) (cond b (refusal 3) (cond c (refusal 4) rest))
 after-heading true b c rest = refl
 after-heading false true c rest = refl

@@ -14,7 +14,7 @@ use Rattle.envelope.specs.Flags.{kindOf, badFlags}
 use Rattle.envelope.specs.Helpers.{pasted, variableLength, Allowed}
 use Rattle.envelope.specs.Layout.{headerSize, fieldSize, largestVariable, largestAddress, largestBody, largestMessage}
 use Rattle.envelope.specs.Message.{RoutingFields, unaddressed, addressed, Given, inFour, headerBytes, variableBytes, variableOf, beforeField, fieldNumber, message}
-use Rattle.envelope.specs.Writing.{hasZero, badEnd, strayEnds, badEnds, bodyTooLong, strayIntegrity, Outcome, written, refused, writing, bufferAfter, wrote, barred, answerOf, wroteLength, WritesNoLonger, RefusalWritesNothing}
+use Rattle.envelope.specs.Writing.{hasZero, badEnd, strayEnds, badEnds, bodyTooLong, strayIntegrity, WriteOutcome, written, refused, writing, afterWriting, wrote, refused, writeAnswer, wroteLength, WritesNoLonger, RefusalWritesNothing}
 use Rattle.envelope.proofs.BoolLaws.{neither}
 use Rattle.envelope.proofs.PastedLaws.{pasted-more}
 
@@ -114,11 +114,11 @@ pub kept-written : (g : Given) (room : ℕ) → Kept g room → writing g room �
 kept-written g room k = four-writing g room (k .four) ∙ rw (k .fits)
 
 -- a length was answered
-passes : (b : Bool) (k n : ℕ) (w : Outcome) → wrote n ≡ answerOf (cond b (refused k) w) → (b ≡ false) × (wrote n ≡ answerOf w)
+passes : (b : Bool) (k n : ℕ) (w : WriteOutcome) → wrote n ≡ writeAnswer (cond b (refused k) w) → (b ≡ false) × (wrote n ≡ writeAnswer w)
 passes true k n w e = (cc, cc)
 passes false k n w e = (refl, e)
 
-pub wrote-kept : (g : Given) (room n : ℕ) → wrote n ≡ answerOf (writing g room) → Kept g room
+pub wrote-kept : (g : Given) (room n : ℕ) → wrote n ≡ writeAnswer (writing g room) → Kept g room
 unfolding writing
 wrote-kept g room n e =
     let p1 = passes (badFlags (g .header .flags)) 11 n _ e in
@@ -151,16 +151,16 @@ message-most g room k =
 pub writes-no-longer : WritesNoLonger
 writes-no-longer g room = go (writing g room) refl
   where
-    go : (w : Outcome) → writing g room ≡ w → wroteLength (answerOf w) ≤ largestMessage
+    go : (w : WriteOutcome) → writing g room ≡ w → wroteLength (writeAnswer w) ≤ largestMessage
     go (refused n) e = omega arith
     go (written m) e =
         let k = wrote-kept g room (length m) (rw e) in
-        let same : length (message g) ≡ length m = ap (λ (w : Outcome). wroteLength (answerOf w)) (sym (kept-written g room k) ∙ e) in
+        let same : length (message g) ≡ length m = ap (λ (w : WriteOutcome). wroteLength (writeAnswer w)) (sym (kept-written g room k) ∙ e) in
         omega (arith, same, message-most g room k)
 
 -- ---- the buffer afterwards
 
-pub refused-after : (w : Outcome) (k : ℕ) (entry : List ℕ) → barred k ≡ answerOf w → entry ≡ bufferAfter w entry
+pub refused-after : (w : WriteOutcome) (k : ℕ) (entry : List ℕ) → refused k ≡ writeAnswer w → entry ≡ afterWriting w entry
 refused-after (written m) k entry e = cc
 refused-after (refused n) k entry e = refl
 
@@ -168,6 +168,6 @@ pub refusal-writes-nothing : RefusalWritesNothing
 refusal-writes-nothing g entry exit r n w e =
     w .1 ∙ sym (refused-after (writing g (length entry)) n entry (sym e ∙ w .0))
 
-pub written-after : (entry m : List ℕ) → pasted entry 0 m ≡ bufferAfter (written m) entry
+pub written-after : (entry m : List ℕ) → pasted entry 0 m ≡ afterWriting (written m) entry
 unfolding pasted
 written-after entry m = rw zero-add

@@ -5,7 +5,7 @@ use mathlib.Core.List.{List, [], _∷_, _++_, append-assoc}
 use mathlib.Core.Path.{_≡_, refl, ap, sym, _∙_}
 use Prim.Native.Nat.{ℕ, suc, _+_, _-_, _/_, _%_, _*_, _≤_, _<_}
 use native.Mathlib.Omega.{arith}
-use borrow.Author.Tests.{eq-eqb, ne-eqb, le-leb, lt-leb, le-ltb, ltb-false, eqb-true, leb-false, not-false}
+use borrow.Author.Tests.{eq-eqb, ne-eqb, le-leb, le-ltb, ltb-false, eqb-true, leb-false, not-false}
 use lib.Dec.{eqb, leb}
 use lib.ListN.{length, take, drop, length-append}
 use lib.Seq.{getD-append-seam, getD-append-add, take-append-seam, take-at, drop-append-add, drop-append-seam, drop-drop}
@@ -15,7 +15,7 @@ use Rattle.envelope.specs.Fields.{HeaderFields, AddressingFields, absent
 use Rattle.envelope.specs.Flags.{kindOf, kindNone, kindCrc}
 use Rattle.envelope.specs.Heading.{fieldPlace, badVariableSize}
 use Rattle.envelope.specs.IntegrityField.{badIntegrity}
-use Rattle.envelope.specs.Layout.{headerSize, routingSize, addressesPlace, fieldSize, largestAddress, largestVariable}
+use Rattle.envelope.specs.Layout.{headerSize, routingSize, addressesPlace, fieldSize, largestAddress, smallestVariable, largestVariable}
 use Rattle.envelope.specs.Message.{RoutingFields, unaddressed, addressed, Given, inFour, headerBytes, variableBytes, variableOf, beforeField, fieldNumber, message}
 use Rattle.envelope.specs.Numbers.{twoAt, threeAt, fourAt}
 use Rattle.envelope.specs.Reading.{headerOf, addressingOf, integrityOf, fieldsOf, reading}
@@ -144,7 +144,7 @@ variable-fine (addressed ttl qos) source destination hs hd =
     let p = hs .short in
     let q = hd .short in
     let v = length (variableBytes (addressed ttl qos) source destination) in
-    simp (le-leb 1 v (omega arith), lt-leb v 5 (omega arith), le-ltb largestVariable v (omega arith))
+    simp (le-leb 1 v (omega arith), le-ltb v smallestVariable (omega arith), le-ltb largestVariable v (omega arith))
 
 field-cases : (a b : Bool) (sum number : ℕ)
     → cond a (not (eqb (cond a 0 (cond b sum number)) 0)) (cond b (not (eqb (cond a 0 (cond b sum number)) sum)) false) ≡ false

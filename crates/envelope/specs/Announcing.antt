@@ -7,7 +7,8 @@ use mathlib.Core.Path.{_≡_}
 use lib.Dec.{ltb}
 use lib.ListN.{length}
 use Rattle.envelope.specs.Fields.{Refusal}
-use Rattle.envelope.specs.Heading.{announced, Judged, passed, broken, heading}
+use Rattle.envelope.specs.Heading.{announced, HeadingAnswer, passed, heading}
+use Rattle.envelope.specs.Heading as judged
 use Rattle.envelope.specs.Layout.{headerSize}
 use Rattle.envelope.specs.Told.{toldRefusal}
 use Rattle.envelope.specs.declared.announcer.Announcement.{Announcement}
@@ -19,8 +20,8 @@ pub data AnnouncementAnswer : Type 0 where
   announces : ℕ → AnnouncementAnswer
 
 -- rules 2 to 4 come before the length
-abbrev pub announcedBy : Judged → ℕ → AnnouncementAnswer
-announcedBy (broken n) whole = refused (record { number = n })
+abbrev pub announcedBy : HeadingAnswer → ℕ → AnnouncementAnswer
+announcedBy (judged.refused n) whole = refused (record { number = n })
 announcedBy passed whole = announces whole
 
 -- fewer than 17 bytes announce nothing

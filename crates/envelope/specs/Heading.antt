@@ -5,7 +5,7 @@ use mathlib.Core.Bool.{Bool, cond, not, _&&_, _||_}
 use mathlib.Core.List.{List}
 use lib.Dec.{eqb, leb, ltb}
 use Rattle.envelope.specs.Flags.{badFlags}
-use Rattle.envelope.specs.Layout.{headerVersion, versionPlace, flagsPlace, dataLengthPlace, variableSizePlace, headerSize, fieldSize, largestVariable}
+use Rattle.envelope.specs.Layout.{headerVersion, versionPlace, flagsPlace, dataLengthPlace, variableSizePlace, headerSize, fieldSize, smallestVariable, largestVariable}
 use Rattle.envelope.specs.Numbers.{byteAt, threeAt}
 
 abbrev pub flagsOf : List ℕ → ℕ
@@ -31,16 +31,16 @@ wrongVersion s = not (eqb (byteAt s versionPlace) headerVersion)
 
 -- rule 4, of V
 unfoldable pub badVariableSize : ℕ → Bool
-badVariableSize v = leb 1 v && leb v 5 || ltb largestVariable v
+badVariableSize v = leb 1 v && ltb v smallestVariable || ltb largestVariable v
 
 -- the first of rules 2 to 4 that is broken
-pub data Judged : Type 0 where
-  passed : Judged
-  broken : ℕ → Judged
+pub data HeadingAnswer : Type 0 where
+  passed : HeadingAnswer
+  refused : ℕ → HeadingAnswer
 
-unfoldable pub heading : List ℕ → Judged
+unfoldable pub heading : List ℕ → HeadingAnswer
 heading s =
-    cond (wrongVersion s) (broken 2)
-    (cond (badFlags (flagsOf s)) (broken 3)
-    (cond (badVariableSize (variableSize s)) (broken 4)
+    cond (wrongVersion s) (refused 2)
+    (cond (badFlags (flagsOf s)) (refused 3)
+    (cond (badVariableSize (variableSize s)) (refused 4)
     passed))

@@ -7,7 +7,7 @@ use mathlib.Core.Option.{Option, none, some}
 use lib.ListN.{length, take, drop}
 use Rattle.envelope.specs.Addresses.{sourceSize, destinationSize}
 use Rattle.envelope.specs.Fields.{AddressingFields, IntegrityFields}
-use Rattle.envelope.specs.Heading.{Judged, passed, broken}
+use Rattle.envelope.specs.Heading.{HeadingAnswer, passed, refused}
 use Rattle.envelope.specs.Layout.{headerSize, routingSize, largestAddress, largestBody, fieldSize}
 use Rattle.envelope.specs.Message.{RoutingFields, unaddressed, addressed}
 use Rattle.envelope.specs.RoundTrips.{givenBy}
@@ -36,20 +36,20 @@ abbrev pub sizes : List ℕ → Sizes
 sizes region = record { source = sourceSize region; destination = destinationSize region }
 
 abbrev pub toldEnds : Ends → Option Sizes
-toldEnds ends.Broken = none
+toldEnds ends.Refused = none
 toldEnds (ends.Sizes a b) = some (record { source = a; destination = b })
 
 abbrev pub toldFoundAddressing : FoundAddressing → Option AddressingFields
-toldFoundAddressing addressing.Broken = none
+toldFoundAddressing addressing.Refused = none
 toldFoundAddressing (addressing.Good a) = some (toldAddressing a)
 
 abbrev pub toldFoundIntegrity : FoundIntegrity → Option IntegrityFields
-toldFoundIntegrity integrity.Broken = none
+toldFoundIntegrity integrity.Refused = none
 toldFoundIntegrity (integrity.Good i) = some (toldIntegrity i)
 
-abbrev pub toldHeading : Heading → Judged
+abbrev pub toldHeading : Heading → HeadingAnswer
 toldHeading heading.Passed = passed
-toldHeading (heading.Broken f) = broken (toldFault f)
+toldHeading (heading.Refused f) = refused (toldFault f)
 
 -- ---- of the writer
 

@@ -46,6 +46,10 @@ routingSize = 4
 abbrev pub addressesPlace : ℕ
 addressesPlace = headerSize + routingSize
 
+-- with two empty addresses: their closing zeros
+abbrev pub smallestVariable : ℕ
+smallestVariable = routingSize + 2
+
 abbrev pub largestVariable : ℕ
 largestVariable = 132
 

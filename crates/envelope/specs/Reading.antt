@@ -8,7 +8,7 @@ use lib.ListN.{length}
 use Rattle.envelope.specs.Addresses.{regionOf, sourceSize, destinationSize, badAddresses}
 use Rattle.envelope.specs.Fields.{Span, HeaderFields, AddressingFields, absent, present, IntegrityFields, none, crc, application, Fields, Answer, accepted, refusal}
 use Rattle.envelope.specs.Flags.{kindOf, kindNone, kindCrc}
-use Rattle.envelope.specs.Heading.{flagsOf, variableSize, dataLength, fieldPlace, announced, Judged, passed, broken, heading}
+use Rattle.envelope.specs.Heading.{flagsOf, variableSize, dataLength, fieldPlace, announced, HeadingAnswer, passed, refused, heading}
 use Rattle.envelope.specs.IntegrityField.{badIntegrity}
 use Rattle.envelope.specs.Layout.{typePlace, messageVersionPlace, numberPlace, timePlace, ttlPlace, qosPlace, headerSize, addressesPlace, leastSize}
 use Rattle.envelope.specs.Numbers.{byteAt, twoAt, fourAt}
@@ -69,8 +69,8 @@ readingWhole s =
     (accepted (fieldsOf s))))
 
 -- what follows the heading, unless the heading is broken
-abbrev pub after : Judged → Answer → Answer
-after (broken n) rest = refusal n
+abbrev pub after : HeadingAnswer → Answer → Answer
+after (refused n) rest = refusal n
 after passed rest = rest
 
 unfoldable pub reading : List ℕ → Answer

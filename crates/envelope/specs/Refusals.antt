@@ -38,7 +38,7 @@ NumbersPassingOn n refusal r = NumbersOf (passingOn n (toldRefusal refusal)) r
 
 -- ---- which refusals an operation can give: those with these numbers alone, and those that pass on reading's with these
 
-unfoldable pub among : List ℕ → ℕ → Bool
+abbrev pub among : List ℕ → ℕ → Bool
 among [] n = false
 among (m ∷ ms) n = eqb m n || among ms n
 

@@ -6,42 +6,44 @@ use mathlib.Core.List.{List, _++_}
 use mathlib.Core.Path.{_≡_}
 use lib.Dec.{ltb}
 use lib.ListN.{length, drop}
-use Rattle.envelope.specs.Fields.{Refusal, Answer, accepted, refused}
+use Rattle.envelope.specs.Fields.{Refusal, Answer, accepted}
+use Rattle.envelope.specs.Fields as read
 use Rattle.envelope.specs.Layout.{largestMessage}
 use Rattle.envelope.specs.Promise.{Bytes}
 use Rattle.envelope.specs.Reading.{reading}
 use Rattle.envelope.specs.Told.{toldRefusal}
 use Rattle.envelope.specs.declared.rewriter.Rewriting.{Rewriting}
-use Rattle.envelope.specs.declared.rewriter.Rewriting.the-variants.{Written, Unread, NoRoom}
+use Rattle.envelope.specs.declared.rewriter.Rewriting.the-variants.{Written, Refused, NoRoom}
 
 pub data RewriteAnswer : Type 0 where
   rewrote : ℕ → RewriteAnswer
-  unread : Refusal → RewriteAnswer
-  barred : ℕ → RewriteAnswer
+  refused : Refusal → RewriteAnswer
 
-abbrev pub afterReading : Answer → List ℕ → ℕ → RewriteAnswer
-afterReading (refused r) s room = unread r
-afterReading (accepted f) s room = cond (ltb room (length s)) (barred 15) (rewrote (length s))
+-- 15
+abbrev pub noRoom : Refusal
+noRoom = record { number = 15 }
+
+abbrev pub rewritingRead : Answer → List ℕ → ℕ → RewriteAnswer
+rewritingRead (read.refused r) s room = refused r
+rewritingRead (accepted f) s room = cond (ltb room (length s)) (refused noRoom) (rewrote (length s))
 
 abbrev pub rewriting : List ℕ → ℕ → RewriteAnswer
-rewriting s room = afterReading (reading s) s room
+rewriting s room = rewritingRead (reading s) s room
 
 -- the buffer afterwards: the same bytes at the front, or as it was
-abbrev pub rewritten : RewriteAnswer → List ℕ → List ℕ → List ℕ
-rewritten (rewrote n) s entry = s ++ drop n entry
-rewritten (unread r) s entry = entry
-rewritten (barred n) s entry = entry
+abbrev pub afterRewriting : RewriteAnswer → List ℕ → List ℕ → List ℕ
+afterRewriting (rewrote n) s entry = s ++ drop n entry
+afterRewriting (refused r) s entry = entry
 
 abbrev pub toldRewriting : Rewriting → RewriteAnswer
 toldRewriting (Written n) = rewrote n
-toldRewriting (Unread r) = unread (toldRefusal r)
-toldRewriting NoRoom = barred 15
+toldRewriting (Refused r) = refused (toldRefusal r)
+toldRewriting NoRoom = refused noRoom
 
 -- no message is longer than the longest; proved in proofs/RewriteLaws
 abbrev pub rewroteLength : RewriteAnswer → ℕ
 rewroteLength (rewrote n) = n
-rewroteLength (unread r) = 0
-rewroteLength (barred n) = 0
+rewroteLength (refused r) = 0
 
 abbrev pub RewritesNoLonger : Type 0
 RewritesNoLonger = (s : List ℕ) (room : ℕ) → Bytes s → rewroteLength (rewriting s room) ≤ largestMessage
@@ -49,7 +51,7 @@ RewritesNoLonger = (s : List ℕ) (room : ℕ) → Bytes s → rewroteLength (re
 -- what `rewrite` promises
 abbrev pub Rewrites : List ℕ → List ℕ → Rewriting → List ℕ → Type 0
 Rewrites s entry r exit =
-    (toldRewriting r ≡ rewriting s (length entry)) × (exit ≡ rewritten (rewriting s (length entry)) s entry)
+    (toldRewriting r ≡ rewriting s (length entry)) × (exit ≡ afterRewriting (rewriting s (length entry)) s entry)
 
 -- a refusal leaves the buffer as it was; proved in proofs/RewriteLaws
 abbrev pub RefusedRewriteWritesNothing : Type 0

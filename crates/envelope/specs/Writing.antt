@@ -45,11 +45,11 @@ strayIntegrity application kind = not (eqb application 0) && (eqb kind kindNone 
 
 -- ---- the outcome: the message that is written, or a refusal
 
-pub data Outcome : Type 0 where
-  written : List ℕ → Outcome
-  refused : ℕ → Outcome
+pub data WriteOutcome : Type 0 where
+  written : List ℕ → WriteOutcome
+  refused : ℕ → WriteOutcome
 
-unfoldable pub writing : Given → ℕ → Outcome
+unfoldable pub writing : Given → ℕ → WriteOutcome
 writing g room =
     cond (badFlags (g .header .flags)) (refused 11)
     (cond (badEnds (g .routing) (g .source) (g .destination)) (refused 12)
@@ -59,19 +59,19 @@ writing g room =
     (written (message g))))))
 
 -- the buffer afterwards: the message at the front and the rest untouched, or as it was
-abbrev pub bufferAfter : Outcome → List ℕ → List ℕ
-bufferAfter (written m) entry = m ++ drop (length m) entry
-bufferAfter (refused n) entry = entry
+abbrev pub afterWriting : WriteOutcome → List ℕ → List ℕ
+afterWriting (written m) entry = m ++ drop (length m) entry
+afterWriting (refused n) entry = entry
 
 -- ---- the code's answer, told in the paper's numbers
 
 pub data WriteAnswer : Type 0 where
   wrote : ℕ → WriteAnswer
-  barred : ℕ → WriteAnswer
+  refused : ℕ → WriteAnswer
 
-abbrev pub answerOf : Outcome → WriteAnswer
-answerOf (written m) = wrote (length m)
-answerOf (refused n) = barred n
+abbrev pub writeAnswer : WriteOutcome → WriteAnswer
+writeAnswer (written m) = wrote (length m)
+writeAnswer (refused n) = refused n
 
 abbrev pub toldWriteFault : WriteFault → ℕ
 toldWriteFault BadFlags = 11
@@ -86,7 +86,7 @@ NumbersWriteFault f r = r ≡ toldWriteFault f
 
 abbrev pub toldWriting : Writing → WriteAnswer
 toldWriting (Written n) = wrote n
-toldWriting (Refused f) = barred (toldWriteFault f)
+toldWriting (Refused f) = refused (toldWriteFault f)
 
 abbrev pub toldRouting : Routing → RoutingFields
 toldRouting Absent = unaddressed
@@ -107,17 +107,17 @@ given header routing source destination body application =
 -- what `write` promises, of its answer and of the whole buffer afterwards
 abbrev pub Writes : Given → List ℕ → Writing → List ℕ → Type 0
 Writes g entry r exit =
-    (toldWriting r ≡ answerOf (writing g (length entry))) × (exit ≡ bufferAfter (writing g (length entry)) entry)
+    (toldWriting r ≡ writeAnswer (writing g (length entry))) × (exit ≡ afterWriting (writing g (length entry)) entry)
 
 -- no message is longer than the longest; proved in proofs/WriteLaws
 abbrev pub wroteLength : WriteAnswer → ℕ
 wroteLength (wrote n) = n
-wroteLength (barred n) = 0
+wroteLength (refused n) = 0
 
 abbrev pub WritesNoLonger : Type 0
-WritesNoLonger = (g : Given) (room : ℕ) → wroteLength (answerOf (writing g room)) ≤ largestMessage
+WritesNoLonger = (g : Given) (room : ℕ) → wroteLength (writeAnswer (writing g room)) ≤ largestMessage
 
 -- a refusal leaves the buffer as it was; proved in proofs/WriteLaws
 abbrev pub RefusalWritesNothing : Type 0
 RefusalWritesNothing =
-    (g : Given) (entry exit : List ℕ) (r : Writing) (n : ℕ) → Writes g entry r exit → toldWriting r ≡ barred n → exit ≡ entry
+    (g : Given) (entry exit : List ℕ) (r : Writing) (n : ℕ) → Writes g entry r exit → toldWriting r ≡ refused n → exit ≡ entry

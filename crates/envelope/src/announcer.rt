@@ -25,11 +25,11 @@ pub enum Announcement {
 pub fn announce(bytes: &[u8]) -> Announcement
     ensures { λ r. ⌜ Announces (now (bytes .entry)) r ⌝ }
 {
-    if bytes.len() < Envelope::HEADER {
+    if bytes.len() < Envelope::HEADER_SIZE {
         return Announcement::Unfinished;
     }
     match judge_heading(bytes) {
-        Heading::Broken(fault) => Announcement::Refused(Refusal { fault }),
+        Heading::Refused(fault) => Announcement::Refused(Refusal { fault }),
         Heading::Passed => Announcement::Length(announced_length(bytes)),
     }
 }
@@ -41,5 +41,5 @@ fn announced_length(bytes: &[u8]) -> usize
 {
     let v = wide(bytes[Envelope::VARIABLE_SIZE_PLACE]) as usize;
     let d = three_at(bytes, Envelope::DATA_LENGTH_PLACE) as usize;
-    Envelope::HEADER + v + d + Envelope::FIELD
+    Envelope::HEADER_SIZE + v + d + Envelope::FIELD_SIZE
 }

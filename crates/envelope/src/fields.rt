@@ -60,7 +60,7 @@ pub struct Envelope {
 
 impl Envelope {
     // The only header version there is.
-    pub const VERSION: u8 = 4;
+    pub const HEADER_VERSION: u8 = 4;
 
     // Where the header's fields begin.
     pub const VERSION_PLACE: usize = 0;
@@ -80,25 +80,27 @@ impl Envelope {
     pub const VARIABLE_SIZE_PLACE: usize = 16;
 
     // The bytes before the variable header.
-    pub const HEADER: usize = 17;
+    pub const HEADER_SIZE: usize = 17;
     // The integrity field.
-    pub const FIELD: usize = 4;
+    pub const FIELD_SIZE: usize = 4;
     // The least message: a header and an integrity field.
-    pub const LEAST: usize = Envelope::HEADER + Envelope::FIELD;
-    // The largest variable header.
-    pub const VARIABLE: usize = 132;
+    pub const LEAST_SIZE: usize = Envelope::HEADER_SIZE + Envelope::FIELD_SIZE;
     // TTL and QoS, the front of a variable header.
-    pub const TTL_PLACE: usize = Envelope::HEADER;
+    pub const TTL_PLACE: usize = Envelope::HEADER_SIZE;
 
-    pub const QOS_PLACE: usize = Envelope::HEADER + 2;
+    pub const QOS_PLACE: usize = Envelope::HEADER_SIZE + 2;
 
-    pub const ROUTING: usize = 4;
-    // Where the addresses begin. That this is LEAST too means nothing.
-    pub const ADDRESSES: usize = Envelope::HEADER + Envelope::ROUTING;
+    pub const ROUTING_SIZE: usize = 4;
+    // The smallest variable header has two empty addresses: their closing zeros.
+    pub const SMALLEST_VARIABLE: usize = Envelope::ROUTING_SIZE + 2;
+
+    pub const LARGEST_VARIABLE: usize = 132;
+    // Where the addresses begin. That this is LEAST_SIZE too means nothing.
+    pub const ADDRESSES_PLACE: usize = Envelope::HEADER_SIZE + Envelope::ROUTING_SIZE;
     // The largest address, with its closing zero.
-    pub const ADDRESS: usize = 64;
+    pub const LARGEST_ADDRESS: usize = 64;
     // The largest body that a data length of three bytes can state.
-    pub const BODY: usize = 16_777_215;
+    pub const LARGEST_BODY: usize = 16_777_215;
 
     pub fn new(header: Header, addressing: Addressing, body: Part, integrity: Integrity) -> Envelope
         ensures { λ r. ⌜ Holds header addressing body integrity r ⌝ }

@@ -14,7 +14,7 @@ pub(crate) fn kind(flags: u8) -> u8
     flags / 8 % 4
 }
 
-pub(crate) fn refused(flags: u8) -> bool
+pub(crate) fn bad_flags(flags: u8) -> bool
     ensures { λ r. ⌜ r ≡ badFlags flags ⌝ }
 {
     if flags / 32 != 0 {

@@ -15,7 +15,7 @@ use crate::flags::KIND_NONE;
 use crate::numbers::four_at;
 
 pub(crate) enum FoundIntegrity {
-    Broken,
+    Refused,
     Good(Integrity),
 }
 
@@ -29,13 +29,13 @@ pub(crate) fn integrity_of(bytes: &[u8], kind: u8, place: usize) -> FoundIntegri
         if held == 0 {
             return FoundIntegrity::Good(Integrity::None);
         }
-        return FoundIntegrity::Broken;
+        return FoundIntegrity::Refused;
     }
     if kind == KIND_CRC {
         if held == sum::crc(&bytes[Envelope::VERSION_PLACE..place]) {
             return FoundIntegrity::Good(Integrity::Crc(held));
         }
-        return FoundIntegrity::Broken;
+        return FoundIntegrity::Refused;
     }
     FoundIntegrity::Good(Integrity::Application(held))
 }

@@ -43,19 +43,19 @@ pub enum Reading {
 
 pub(crate) enum Heading {
     Passed,
-    Broken(Fault),
+    Refused(Fault),
 }
 
 pub fn read(bytes: &[u8]) -> Reading
     ensures { λ r. ⌜ Reads (now (bytes .entry)) r ⌝ }
 {
-    if bytes.len() < Envelope::LEAST {
+    if bytes.len() < Envelope::LEAST_SIZE {
         return Reading::Refused(Refusal {
             fault: Fault::TooShort,
         });
     }
     match judge_heading(bytes) {
-        Heading::Broken(fault) => Reading::Refused(Refusal { fault }),
+        Heading::Refused(fault) => Reading::Refused(Refusal { fault }),
         Heading::Passed => read_whole(bytes),
     }
 }
@@ -65,14 +65,14 @@ pub(crate) fn judge_heading(bytes: &[u8]) -> Heading
     requires { ⌜ headerSize ≤ length (now bytes) ⌝ }
     ensures { λ r. ⌜ toldHeading r ≡ heading (now (bytes .entry)) ⌝ }
 {
-    if bytes[Envelope::VERSION_PLACE] != Envelope::VERSION {
-        return Heading::Broken(Fault::WrongVersion);
+    if bytes[Envelope::VERSION_PLACE] != Envelope::HEADER_VERSION {
+        return Heading::Refused(Fault::WrongVersion);
     }
-    if flags::refused(bytes[Envelope::FLAGS_PLACE]) {
-        return Heading::Broken(Fault::BadFlags);
+    if flags::bad_flags(bytes[Envelope::FLAGS_PLACE]) {
+        return Heading::Refused(Fault::BadFlags);
     }
-    if variable_size_refused(bytes[Envelope::VARIABLE_SIZE_PLACE]) {
-        return Heading::Broken(Fault::BadVariableSize);
+    if bad_variable_size(bytes[Envelope::VARIABLE_SIZE_PLACE]) {
+        return Heading::Refused(Fault::BadVariableSize);
     }
     Heading::Passed
 }
@@ -84,24 +84,24 @@ fn read_whole(bytes: &[u8]) -> Reading
 {
     let v = wide(bytes[Envelope::VARIABLE_SIZE_PLACE]) as usize;
     let d = three_at(bytes, Envelope::DATA_LENGTH_PLACE) as usize;
-    let place = Envelope::HEADER + v + d;
-    if place + Envelope::FIELD != bytes.len() {
+    let place = Envelope::HEADER_SIZE + v + d;
+    if place + Envelope::FIELD_SIZE != bytes.len() {
         return Reading::Refused(Refusal {
             fault: Fault::WrongLength,
         });
     }
     match addressing_of(bytes, v) {
-        FoundAddressing::Broken => Reading::Refused(Refusal {
+        FoundAddressing::Refused => Reading::Refused(Refusal {
             fault: Fault::BadAddresses,
         }),
         FoundAddressing::Good(addressing) => {
             match integrity_of(bytes, flags::kind(bytes[Envelope::FLAGS_PLACE]), place) {
-                FoundIntegrity::Broken => Reading::Refused(Refusal {
+                FoundIntegrity::Refused => Reading::Refused(Refusal {
                     fault: Fault::BadIntegrity,
                 }),
                 FoundIntegrity::Good(integrity) => {
                     let body = Part {
-                        place: Envelope::HEADER + v,
+                        place: Envelope::HEADER_SIZE + v,
                         size: d,
                     };
                     Reading::Accepted(Envelope::new(header_of(bytes), addressing, body, integrity))
@@ -124,17 +124,17 @@ fn header_of(bytes: &[u8]) -> Header
     }
 }
 
-// Rule 4. The smallest variable header is a TTL, a QoS and two closing zeros: 6 bytes.
-fn variable_size_refused(v: u8) -> bool
+// Rule 4.
+fn bad_variable_size(v: u8) -> bool
     ensures { λ r. ⌜ r ≡ badVariableSize v ⌝ }
 {
     if v == 0 {
         return false;
     }
-    if v <= 5 {
+    if (v as usize) < Envelope::SMALLEST_VARIABLE {
         return true;
     }
-    (Envelope::VARIABLE as u8) < v
+    Envelope::LARGEST_VARIABLE < v as usize
 }
 
 impl Fault {

@@ -16,7 +16,7 @@ use crate::writer::write;
 
 pub enum Rewriting {
     Written(usize),
-    Unread(Refusal),
+    Refused(Refusal),
     NoRoom,
 }
 
@@ -24,7 +24,7 @@ pub fn rewrite(bytes: &[u8], buffer: &mut [u8]) -> Rewriting
     ensures { λ r. ⌜ Rewrites (now (bytes .entry)) (now (buffer .entry)) r (now (buffer .exit)) ⌝ }
 {
     match read(bytes) {
-        Reading::Refused(refusal) => Rewriting::Unread(refusal),
+        Reading::Refused(refusal) => Rewriting::Refused(refusal),
         Reading::Accepted(envelope) => match write_again(bytes, envelope, buffer) {
             Writing::Written(size) => Rewriting::Written(size),
             Writing::Refused(_) => Rewriting::NoRoom,

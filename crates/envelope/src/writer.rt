@@ -8,7 +8,7 @@ ghost use Rattle.envelope.specs.Helpers.{Allowed, pasted, variableLength
 ghost use Rattle.envelope.specs.Layout.{headerSize, largestVariable, largestAddress, largestBody};
 ghost use Rattle.envelope.specs.Message.{headerBytes, variableBytes, beforeField, fieldNumber, message};
 ghost use Rattle.envelope.specs.Told.{toldHeader};
-ghost use Rattle.envelope.specs.Writing.{badEnd, badEnds, strayIntegrity, writing, answerOf, toldRouting, toldWriting, NumbersWriteFault, given, Writes};
+ghost use Rattle.envelope.specs.Writing.{badEnd, badEnds, strayIntegrity, writing, writeAnswer, toldRouting, toldWriting, NumbersWriteFault, given, Writes};
 use crate::addresses::first_zero;
 use crate::fields::Envelope;
 use crate::fields::Header;
@@ -80,22 +80,22 @@ fn judge(
     application: u32,
     room: usize,
 ) -> Writing
-    ensures { λ r. ⌜ toldWriting r ≡ answerOf (writing (given header routing (now (source .entry)) (now (destination .entry)) (now (body .entry)) application) room) ⌝ }
+    ensures { λ r. ⌜ toldWriting r ≡ writeAnswer (writing (given header routing (now (source .entry)) (now (destination .entry)) (now (body .entry)) application) room) ⌝ }
 {
-    if flags::refused(header.flags) {
+    if flags::bad_flags(header.flags) {
         return Writing::Refused(WriteFault::BadFlags);
     }
-    if ends_refused(routing, source, destination) {
+    if bad_ends(routing, source, destination) {
         return Writing::Refused(WriteFault::BadAddresses);
     }
-    if Envelope::BODY < body.len() {
+    if Envelope::LARGEST_BODY < body.len() {
         return Writing::Refused(WriteFault::BodyTooLong);
     }
-    if integrity_refused(application, flags::kind(header.flags)) {
+    if stray_integrity(application, flags::kind(header.flags)) {
         return Writing::Refused(WriteFault::StrayIntegrity);
     }
     let variable = variable_length(routing, source.len(), destination.len());
-    let size = Envelope::HEADER + variable + body.len() + Envelope::FIELD;
+    let size = Envelope::HEADER_SIZE + variable + body.len() + Envelope::FIELD_SIZE;
     if room < size {
         return Writing::Refused(WriteFault::NoRoom);
     }
@@ -103,13 +103,13 @@ fn judge(
 }
 
 // Rule 12.
-fn ends_refused(routing: Routing, source: &[u8], destination: &[u8]) -> bool
+fn bad_ends(routing: Routing, source: &[u8], destination: &[u8]) -> bool
     ensures { λ r. ⌜ r ≡ badEnds (toldRouting routing) (now (source .entry)) (now (destination .entry)) ⌝ }
 {
-    if end_refused(source) {
+    if bad_end(source) {
         return true;
     }
-    if end_refused(destination) {
+    if bad_end(destination) {
         return true;
     }
     match routing {
@@ -123,17 +123,17 @@ fn ends_refused(routing: Routing, source: &[u8], destination: &[u8]) -> bool
     }
 }
 
-fn end_refused(end: &[u8]) -> bool
+fn bad_end(end: &[u8]) -> bool
     ensures { λ r. ⌜ r ≡ badEnd (now (end .entry)) ⌝ }
 {
-    if Envelope::ADDRESS <= end.len() {
+    if Envelope::LARGEST_ADDRESS <= end.len() {
         return true;
     }
     first_zero(end) < end.len()
 }
 
 // Rule 14.
-fn integrity_refused(application: u32, kind: u8) -> bool
+fn stray_integrity(application: u32, kind: u8) -> bool
     ensures { λ r. ⌜ r ≡ strayIntegrity application kind ⌝ }
 {
     if application == 0 {
@@ -153,7 +153,7 @@ fn variable_length(routing: Routing, source: usize, destination: usize) -> usize
     match routing {
         Routing::Absent => 0,
         Routing::Present { ttl: _, qos: _ } => {
-            Envelope::ROUTING + (source + 1 + (destination + 1))
+            Envelope::ROUTING_SIZE + (source + 1 + (destination + 1))
         }
     }
 }
@@ -247,12 +247,12 @@ fn put(buffer: &mut [u8], place: usize, part: &[u8]) -> usize
     place + i
 }
 
-fn header_digits(header: Header, v: usize, d: usize) -> [u8; Envelope::HEADER]
+fn header_digits(header: Header, v: usize, d: usize) -> [u8; Envelope::HEADER_SIZE]
     requires { ⌜ (v < 256) × (d ≤ largestBody) ⌝ }
     ensures { λ r. ⌜ r ≡ headerBytes (toldHeader header) v d ⌝ }
 {
     [
-        Envelope::VERSION,
+        Envelope::HEADER_VERSION,
         (header.message_type / 256) as u8,
         (header.message_type % 256) as u8,
         header.version,

@@ -103,7 +103,7 @@ fn expects(kept: &[u8], count: usize) -> usize
     requires { ⌜ (length (now kept) ≡ room) × (count < room) ⌝ }
     ensures { λ r. ⌜ Expected (now (kept .entry)) count r ⌝ }
 {
-    if count < Envelope::HEADER {
+    if count < Envelope::HEADER_SIZE {
         return 0;
     }
     match announce(&kept[..count]) {
@@ -124,11 +124,11 @@ fn stretch(count: usize, offered: usize) -> usize
     requires { ⌜ 0 < offered ⌝ }
     ensures { λ r. ⌜ Stretch count offered r ⌝ }
 {
-    if Envelope::HEADER <= count {
+    if Envelope::HEADER_SIZE <= count {
         return 1;
     }
-    if offered <= Envelope::HEADER - count {
+    if offered <= Envelope::HEADER_SIZE - count {
         return offered;
     }
-    Envelope::HEADER - count
+    Envelope::HEADER_SIZE - count
 }

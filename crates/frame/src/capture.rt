@@ -7,10 +7,10 @@ use crate::unwrapper::four_at;
 pub fn first(capture: &[u8]) -> usize
     ensures { λ r. ⌜ MeasuresFirst (now (capture .entry)) r ⌝ }
 {
-    if capture.len() < layout::LEAST {
+    if capture.len() < layout::LEAST_SIZE {
         return capture.len();
     }
-    let stated = layout::LEAST + four_at(capture, layout::LENGTH_PLACE) as usize;
+    let stated = layout::LEAST_SIZE + four_at(capture, layout::LENGTH_PLACE) as usize;
     if capture.len() < stated {
         return capture.len();
     }

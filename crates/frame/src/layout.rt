@@ -27,8 +27,8 @@ pub const LENGTH_PLACE: usize = 8;
 pub const BODY_PLACE: usize = 12;
 
 // A frame with an empty body: all before the body, and ETX.
-pub const LEAST: usize = BODY_PLACE + 1;
+pub const LEAST_SIZE: usize = BODY_PLACE + 1;
 // The body of an acknowledgment.
 pub const COMMID_SIZE: usize = 4;
 // A whole acknowledgment.
-pub const ACKNOWLEDGMENT_SIZE: usize = LEAST + COMMID_SIZE;
+pub const ACKNOWLEDGMENT_SIZE: usize = LEAST_SIZE + COMMID_SIZE;

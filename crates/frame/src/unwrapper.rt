@@ -56,7 +56,7 @@ pub enum Unwrapped {
 pub fn unwrap(bytes: &[u8]) -> Unwrapped
     ensures { λ r. ⌜ Unwraps (now (bytes .entry)) r ⌝ }
 {
-    if bytes.len() < layout::LEAST {
+    if bytes.len() < layout::LEAST_SIZE {
         return Unwrapped::Refused(Fault::TooShort);
     }
     if bytes[layout::STX_PLACE] != layout::STX {
@@ -107,7 +107,7 @@ fn other_type(message_type: u8) -> bool
 fn wrong_length(message_type: u8, size: u32, given: usize) -> bool
     ensures { λ r. ⌜ r ≡ wrongLength «message_type» size given ⌝ }
 {
-    if layout::LEAST + size as usize != given {
+    if layout::LEAST_SIZE + size as usize != given {
         return true;
     }
     if message_type != layout::TYPE_ACKNOWLEDGMENT {

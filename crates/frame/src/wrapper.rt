@@ -23,7 +23,7 @@ pub fn wrap(message: &[u8], commid: u32, buffer: &mut [u8]) -> Wrapped
     match read(message) {
         Reading::Refused(refusal) => Wrapped::Refused(Fault::Unread(refusal)),
         Reading::Accepted(_) => {
-            let size = layout::LEAST + message.len();
+            let size = layout::LEAST_SIZE + message.len();
             if buffer.len() < size {
                 return Wrapped::Refused(Fault::NoRoom);
             }

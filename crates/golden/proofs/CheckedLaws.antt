@@ -7,12 +7,12 @@ use Prim.Native.Nat.{ℕ, zero, suc, _+_, _≤_, _<_}
 use native.Mathlib.Decide.{decLt}
 use native.Mathlib.Omega.{arith}
 use Rattle.envelope.specs.Fields.{Fields}
+use Rattle.envelope.specs.Refusals.{plainly}
 use Rattle.golden.specs.Checking.{CheckAnswer, counted, unlessBad, checkFrom, checking}
 use Rattle.golden.specs.Checking as check
 use Rattle.golden.specs.File.{badFile, countOf, judgedAt}
 use Rattle.golden.specs.Finding.{NameFields, hasName, found, findFrom, finding}
 use Rattle.golden.specs.Record.{Judged, good, bad}
-use Rattle.golden.specs.Refusal.{plainly}
 use Rattle.golden.specs.Theorems.{GoodAt, CheckedAreGood, NotNamed, FirstNamed, first, none, FindsTheFirst}
 
 -- ---- check

@@ -10,11 +10,11 @@ use lib.Dec.{ltb}
 use lib.ListN.{length}
 use Rattle.envelope.specs.Fields.{Span, Fields}
 use Rattle.envelope.specs.Reading.{reading}
-use Rattle.golden.specs.Comparing.{Outcome, declined, withRadio, withRecord, comparing, longer, differing, properBeginning, comparingMessages, listAfter, CompareAnswer, same, different, unlike, answerOf}
+use Rattle.envelope.specs.Refusals.{Refused, plainly}
+use Rattle.golden.specs.Comparing.{CompareOutcome, refused, withRadio, withRecord, comparing, longer, differing, isProperBeginning, comparingMessages, afterComparing, CompareAnswer, same, different, refused, compareAnswer}
 use Rattle.golden.specs.File.{badFile, notThere, recordAt, judgedAt}
 use Rattle.golden.specs.Positions.{noted}
 use Rattle.golden.specs.Record.{messageOf, Judged, good, bad}
-use Rattle.golden.specs.Refusal.{Refused, plainly}
 use Rattle.golden.specs.Stepping.{message, refused, end, messagePart, stepOf, stepAt}
 
 -- one position, noted and counted or passed over
@@ -31,32 +31,32 @@ longer-below g r m h k = below-both (ltb (length g) (length r))
     below-both true = k
     below-both false = h
 
-module _ (g r l : List ℕ) (b : Bool) (e : b ≡ properBeginning g r) where
-  pub is-32 : b ≡ true → (unlike (plainly 32) ≡ answerOf (comparingMessages g r)) × (l ≡ listAfter (comparingMessages g r) l)
-  unfolding comparingMessages answerOf listAfter
-  is-32 h = let f : properBeginning g r ≡ true = sym e ∙ h in (rw f, rw f)
+module _ (g r l : List ℕ) (b : Bool) (e : b ≡ isProperBeginning g r) where
+  pub is-32 : b ≡ true → (refused (plainly 32) ≡ compareAnswer (comparingMessages g r)) × (l ≡ afterComparing (comparingMessages g r) l)
+  unfolding comparingMessages compareAnswer afterComparing
+  is-32 h = let f : isProperBeginning g r ≡ true = sym e ∙ h in (rw f, rw f)
 
   module _ (h : b ≡ false) (l′ : List ℕ) (t : ℕ) (q : t ≡ length (differing g r)) (s : l′ ≡ noted (differing g r) l) where
-    pub is-same : t ≡ 0 → (same ≡ answerOf (comparingMessages g r)) × (l′ ≡ listAfter (comparingMessages g r) l)
-    unfolding comparingMessages answerOf listAfter
-    is-same z = let f : properBeginning g r ≡ false = sym e ∙ h in (rw (f, ← q, eq-eqb _ _ z), rw f s)
+    pub is-same : t ≡ 0 → (same ≡ compareAnswer (comparingMessages g r)) × (l′ ≡ afterComparing (comparingMessages g r) l)
+    unfolding comparingMessages compareAnswer afterComparing
+    is-same z = let f : isProperBeginning g r ≡ false = sym e ∙ h in (rw (f, ← q, eq-eqb _ _ z), rw f s)
 
-    pub is-different : (t ≡ 0 → ⊥) → (different t ≡ answerOf (comparingMessages g r)) × (l′ ≡ listAfter (comparingMessages g r) l)
-    unfolding comparingMessages answerOf listAfter
-    is-different z = let f : properBeginning g r ≡ false = sym e ∙ h in (rw (f, ← q, ne-eqb _ _ z), rw f s)
+    pub is-different : (t ≡ 0 → ⊥) → (different t ≡ compareAnswer (comparingMessages g r)) × (l′ ≡ afterComparing (comparingMessages g r) l)
+    unfolding comparingMessages compareAnswer afterComparing
+    is-different z = let f : isProperBeginning g r ≡ false = sym e ∙ h in (rw (f, ← q, ne-eqb _ _ z), rw f s)
 
 -- ---- comparing a record, from the answer of a step
 
 refused-so : (f : List ℕ) (n : ℕ) (g radio : List ℕ) (a b : Bool) (j : Judged) (x : Refused)
     → refused x ≡ cond a (refused (plainly 21)) (cond b end (stepOf f n j))
-    → cond a (declined (plainly 21)) (cond b (declined (plainly 22)) (withRecord g radio j)) ≡ declined x
+    → cond a (refused (plainly 21)) (cond b (refused (plainly 22)) (withRecord g radio j)) ≡ refused x
 refused-so f n g radio true b j x e = cc
 refused-so f n g radio false true j x e = cc
 refused-so f n g radio false false (bad y) x e = cc
 refused-so f n g radio false false (good fields) x e = cc
 
 end-so : (f : List ℕ) (n : ℕ) (g radio : List ℕ) (a b : Bool) (j : Judged) → end ≡ cond a (refused (plainly 21)) (cond b end (stepOf f n j))
-    → cond a (declined (plainly 21)) (cond b (declined (plainly 22)) (withRecord g radio j)) ≡ declined (plainly 22)
+    → cond a (refused (plainly 21)) (cond b (refused (plainly 22)) (withRecord g radio j)) ≡ refused (plainly 22)
 end-so f n g radio true b j e = cc
 end-so f n g radio false true j e = refl
 end-so f n g radio false false (bad y) e = cc
@@ -73,7 +73,7 @@ record Kept (f : List ℕ) (n : ℕ) (g radio : List ℕ) (a b : Bool) (j : Judg
   fields : Fields
   judged : j ≡ good fields
   part : p ≡ messagePart f n
-  compared : cond a (declined (plainly 21)) (cond b (declined (plainly 22)) (withRecord g radio j)) ≡ withRadio g radio (reading radio)
+  compared : cond a (refused (plainly 21)) (cond b (refused (plainly 22)) (withRecord g radio j)) ≡ withRadio g radio (reading radio)
 
 message-so : (f : List ℕ) (n : ℕ) (g radio : List ℕ) (a b : Bool) (j : Judged) (p : Span)
     → message p ≡ cond a (refused (plainly 21)) (cond b end (stepOf f n j))
@@ -84,11 +84,11 @@ message-so f n g radio false false (bad y) p e = absurd (let z : _≡_ {A = ℕ}
 message-so f n g radio false false (good x) p e = record { fields = x; judged = refl; part = cc; compared = refl }
 
 module _ (f : List ℕ) (n : ℕ) (radio : List ℕ) where
-  pub by-refused : (x : Refused) → refused x ≡ stepAt f n → comparing f n radio ≡ declined x
+  pub by-refused : (x : Refused) → refused x ≡ stepAt f n → comparing f n radio ≡ refused x
   unfolding stepAt comparing
   by-refused x e = refused-so f n (messageOf (recordAt f n)) radio (badFile f) (notThere f n) (judgedAt f n) x e
 
-  pub by-end : end ≡ stepAt f n → comparing f n radio ≡ declined (plainly 22)
+  pub by-end : end ≡ stepAt f n → comparing f n radio ≡ refused (plainly 22)
   unfolding stepAt comparing
   by-end e = end-so f n (messageOf (recordAt f n)) radio (badFile f) (notThere f n) (judgedAt f n) e
 
@@ -98,11 +98,11 @@ module _ (f : List ℕ) (n : ℕ) (radio : List ℕ) where
       let k = message-so f n (messageOf (recordAt f n)) radio (badFile f) (notThere f n) (judgedAt f n) p e in
       record { fields = k .fields; judged = k .judged; part = k .part; compared = k .compared }
 
-pub declines : (o : Outcome) (x : Refused) (l : List ℕ) → o ≡ declined x → (unlike x ≡ answerOf o) × (l ≡ listAfter o l)
-unfolding answerOf listAfter
-declines o x l e = (rw e, rw e)
+pub refuses : (o : CompareOutcome) (x : Refused) (l : List ℕ) → o ≡ refused x → (refused x ≡ compareAnswer o) × (l ≡ afterComparing o l)
+unfolding compareAnswer afterComparing
+refuses o x l e = (rw e, rw e)
 
 -- two messages are compared under another name of the first
-pub compares-same : (o : Outcome) (g h r l₀ l : List ℕ) (x : CompareAnswer) → g ≡ h → o ≡ comparingMessages h r
-    → (x ≡ answerOf (comparingMessages g r)) × (l ≡ listAfter (comparingMessages g r) l₀) → (x ≡ answerOf o) × (l ≡ listAfter o l₀)
+pub compares-same : (o : CompareOutcome) (g h r l₀ l : List ℕ) (x : CompareAnswer) → g ≡ h → o ≡ comparingMessages h r
+    → (x ≡ compareAnswer (comparingMessages g r)) × (l ≡ afterComparing (comparingMessages g r) l₀) → (x ≡ compareAnswer o) × (l ≡ afterComparing o l₀)
 compares-same o g h r l₀ l x eg eo c = rw (eo, ← eg) c

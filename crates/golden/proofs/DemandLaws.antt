@@ -21,7 +21,7 @@ use Rattle.envelope.specs.Numbers.{byteAt, twoBytes, twoAt}
 use Rattle.envelope.specs.Promise.{Bytes}
 use Rattle.golden.specs.Checking.{counted, checking}
 use Rattle.golden.specs.File.{countOf, recordAt, judgedAt}
-use Rattle.golden.specs.Record.{recordSize, headSize, longestMessage, storedWord, storedLength, messageOf}
+use Rattle.golden.specs.Record.{recordSize, headSize, messageRoom, storedWord, storedLength, messageOf}
 use Rattle.golden.specs.Theorems.{GoodAt, GoldenDemand3, SameButMessage, GoldenTwoBits, GoldenThreeBitsAnywhere, GoldenAnyWindow, GoldenMiddleWindow}
 use Rattle.golden.proofs.CheckedLaws.{checked-are-good}
 use Rattle.golden.proofs.RecordLaws.{length-most, Good, good-record, behind-message, message-long}
@@ -31,7 +31,7 @@ use Rattle.golden.proofs.RecordLaws.{length-most, Good, good-record, be
 record-byte : (f : List ℕ) (r i : ℕ) → i < recordSize → byteAt (recordAt f r) i ≡ byteAt f (r * recordSize + i)
 record-byte f r i h = getD-take recordSize (drop (r * recordSize) f) i 0 h ∙ getD-drop (r * recordSize) f i 0
 
-message-byte : (f : List ℕ) (r i : ℕ) → storedLength (recordAt f r) ≤ longestMessage → i < storedLength (recordAt f r)
+message-byte : (f : List ℕ) (r i : ℕ) → storedLength (recordAt f r) ≤ messageRoom → i < storedLength (recordAt f r)
     → byteAt (messageOf (recordAt f r)) i ≡ byteAt f (r * recordSize + (headSize + i))
 message-byte f r i short h =
     getD-take (storedLength (recordAt f r)) (drop headSize (recordAt f r)) i 0 h
@@ -47,11 +47,11 @@ as-judged : (f : List ℕ) (r : ℕ) (g : GoodAt f r) → Good (recordAt f r) (g
 unfolding judgedAt
 as-judged f r g = good-record (recordAt f r) (g .fields) (g .judged)
 
-stored-most : (f : List ℕ) (r : ℕ) → GoodAt f r → storedLength (recordAt f r) ≤ longestMessage
+stored-most : (f : List ℕ) (r : ℕ) → GoodAt f r → storedLength (recordAt f r) ≤ messageRoom
 stored-most f r g = length-most (storedLength (recordAt f r)) (as-judged f r g .size)
 
 -- behind the message stand zeros
-zero-behind : (f : List ℕ) (r i : ℕ) → GoodAt f r → storedLength (recordAt f r) ≤ i → i < longestMessage
+zero-behind : (f : List ℕ) (r i : ℕ) → GoodAt f r → storedLength (recordAt f r) ≤ i → i < messageRoom
     → byteAt f (r * recordSize + (headSize + i)) ≡ 0
 zero-behind f r i g h l =
     sym (record-byte f r (headSize + i) (omega arith)) ∙ behind-message (recordAt f r) (g .fields) (as-judged f r g) (headSize + i) (omega arith)
@@ -112,7 +112,7 @@ module _ (f g : List ℕ) (r lo hi : ℕ) (lf : r < countOf f) (lg : r < countOf
           let p : r * recordSize + (headSize + j) ≡ i = omega arith in
           rw p at (same-place j (omega arith) (decLt j (length s)))
         where
-          same-place : (j : ℕ) → j < longestMessage → Dec (j < length s) → byteAt f (r * recordSize + (headSize + j)) ≡ byteAt g (r * recordSize + (headSize + j))
+          same-place : (j : ℕ) → j < messageRoom → Dec (j < length s) → byteAt f (r * recordSize + (headSize + j)) ≡ byteAt g (r * recordSize + (headSize + j))
           same-place j l (yes k) = sym (byte-s j k) ∙ ap (λ (m : List ℕ). byteAt m j) e ∙ byte-t j k
           same-place j l (no k) =
               zero-behind f r j gf (omega (arith, long-s)) l ∙ sym (zero-behind g r j gg (omega (arith, long-s, same-stored)) l)
@@ -142,7 +142,7 @@ module _ (f g : List ℕ) (n m r lo hi : ℕ) (bf : Bytes f) (bg : Bytes g) (cf 
   lengths =
       long-s f g r lo hi in-f in-g good-f good-g starts same ∙ sym (long-t f g r lo hi in-f in-g good-f good-g starts same)
 
-  short : length (messageOf (recordAt f r)) ≤ longestMessage
+  short : length (messageOf (recordAt f r)) ≤ messageRoom
   short = omega (arith, long-s f g r lo hi in-f in-g good-f good-g starts same, stored-most f r good-f)
 
   messages : (k : ℕ) → lo ≡ r * recordSize + headSize + k → hi ≡ lo + 4 → SameOutside k (messageOf (recordAt f r)) (messageOf (recordAt g r))
@@ -171,7 +171,7 @@ module _ (f g : List ℕ) (n m r k : ℕ) (bf : Bytes f) (bg : Bytes g) (cf : ch
   window-messages : SameOutside k (messageOf (recordAt f r)) (messageOf (recordAt g r))
   window-messages = messages f g n m r lo (lo + 4) bf bg cf cg l e (omega arith) same k refl refl
 
-  window-files : k + 4 ≤ longestMessage → messageOf (recordAt f r) ≡ messageOf (recordAt g r) → f ≡ g
+  window-files : k + 4 ≤ messageRoom → messageOf (recordAt f r) ≡ messageOf (recordAt g r) → f ≡ g
   window-files h p = files f g n m r lo (lo + 4) bf bg cf cg l e (omega arith) same p (omega arith)
 
   window-apart : (i v : ℕ) → k + i < length (messageOf (recordAt f r))
@@ -196,7 +196,7 @@ golden-middle-window f g n m r k bf bg cf cg l ds dt at e same =
     least : leastSize ≤ length (messageOf (recordAt f r))
     least = accepted-least _ (ds .fields) (ds .accepts)
 
-    most : length (messageOf (recordAt f r)) ≤ longestMessage
+    most : length (messageOf (recordAt f r)) ≤ messageRoom
     most = short f g n m r (r * recordSize + headSize + k) (r * recordSize + headSize + k + 4) bf bg cf cg l e (omega arith) same
 
     told : (messageOf (recordAt f r) ≡ messageOf (recordAt g r)) ⊎ OneDifference k (messageOf (recordAt f r)) (messageOf (recordAt g r))
@@ -235,7 +235,7 @@ module _ (f g : List ℕ) (n m r : ℕ) (bf : Bytes f) (bg : Bytes g) (cf : chec
   equal-lengths : length (messageOf (recordAt f r)) ≡ length (messageOf (recordAt g r))
   equal-lengths = lengths f g n m r base last bf bg cf cg l e (omega arith) same
 
-  short-enough : length (messageOf (recordAt f r)) ≤ longestMessage
+  short-enough : length (messageOf (recordAt f r)) ≤ messageRoom
   short-enough = short f g n m r base last bf bg cf cg l e (omega arith) same
 
   equal-files : messageOf (recordAt f r) ≡ messageOf (recordAt g r) → f ≡ g

@@ -15,17 +15,17 @@ use Rattle.envelope.specs.Fields as envelope
 use Rattle.envelope.specs.Layout.{largestMessage}
 use Rattle.envelope.specs.Promise.{Bytes}
 use Rattle.envelope.specs.Reading.{reading}
+use Rattle.envelope.specs.Refusals.{Refused, plainly, passingOn}
 use Rattle.golden.specs.Checking.{CheckAnswer, unlessBad, checkFrom, checking}
 use Rattle.golden.specs.Checking as check
-use Rattle.golden.specs.Comparing.{differsAt, longer, differing, properBeginning, positions, declined, comparingMessages, withRadio, withRecord, comparing, same, different, answerOf}
+use Rattle.golden.specs.Comparing.{differsAt, longer, differing, isProperBeginning, positions, refused, comparingMessages, withRadio, withRecord, comparing, same, different, compareAnswer}
 use Rattle.golden.specs.File.{mostRecords, largestFile, badFile, countOf, notThere, recordAt, judgedAt}
 use Rattle.golden.specs.Finding.{NameFields, hasName, FindAnswer, found, decides, findFrom, finding}
 use Rattle.golden.specs.Finding as find
 use Rattle.golden.specs.Listing.{counting}
 use Rattle.golden.specs.Listing as listing
 use Rattle.golden.specs.Positions.{select}
-use Rattle.golden.specs.Record.{recordSize, headSize, longestMessage, storedLength, messageOf, Judged, good, bad}
-use Rattle.golden.specs.Refusal.{Refused, plainly, passingOn}
+use Rattle.golden.specs.Record.{recordSize, headSize, messageRoom, storedLength, messageOf, Judged, good, bad}
 use Rattle.golden.specs.Stepping.{StepAnswer, stepOf, stepAt, nextAfter}
 use Rattle.golden.specs.Theorems.{checkedNumber, CheckNamesFew, countedNumber, CountIsFew, openedNumber, foundNumber, FindOpensFew, reachedSize, StepReachesShort, StepGoesOnByOne, differenceTotal, CompareTotalsFew}
 use Rattle.golden.proofs.ComparingLaws.{longer-below}
@@ -102,11 +102,11 @@ find-opens-few f name = go (badFile f) refl
 pub step-reaches-short : StepReachesShort
 step-reaches-short f n = by (stepAt f n) (reason f n)
   where
-    of : (j : Judged) → judgedAt f n ≡ j → reachedSize (stepOf f n j) ≤ longestMessage
+    of : (j : Judged) → judgedAt f n ≡ j → reachedSize (stepOf f n j) ≤ messageRoom
     of (good x) q = good-size f n x q
     of (bad r) q = omega arith
 
-    by : (a : StepAnswer) → Reason f n a → reachedSize a ≤ longestMessage
+    by : (a : StepAnswer) → Reason f n a → reachedSize a ≤ messageRoom
     by _ (at-21 e) = omega arith
     by _ (at-end e there) = omega arith
     by _ (at-record e there j q) = of j q
@@ -131,8 +131,8 @@ select-few p k (suc n) = go (p k) (select-few p (k + 1) n)
     go true h = omega (arith, h)
     go false h = omega (arith, h)
 
-total-of : (ks : List ℕ) → differenceTotal (answerOf (positions ks)) ≤ length ks
-unfolding answerOf
+total-of : (ks : List ℕ) → differenceTotal (compareAnswer (positions ks)) ≤ length ks
+unfolding compareAnswer
 total-of ks = go (eqb (length ks) 0)
   where
     go : (b : Bool) → differenceTotal (cond b same (different (length ks))) ≤ length ks
@@ -143,25 +143,25 @@ differing-few : (g r : List ℕ) → length (differing g r) ≤ longer g r
 unfolding differing
 differing-few g r = select-few (differsAt g r) 0 (longer g r)
 
-nothing-of : (x : Refused) (m : ℕ) → differenceTotal (answerOf (declined x)) ≤ m
-unfolding answerOf
+nothing-of : (x : Refused) (m : ℕ) → differenceTotal (compareAnswer (refused x)) ≤ m
+unfolding compareAnswer
 nothing-of x m = omega arith
 
-messages-total : (g r : List ℕ) (m : ℕ) → length g ≤ m → length r ≤ m → differenceTotal (answerOf (comparingMessages g r)) ≤ m
+messages-total : (g r : List ℕ) (m : ℕ) → length g ≤ m → length r ≤ m → differenceTotal (compareAnswer (comparingMessages g r)) ≤ m
 unfolding comparingMessages
-messages-total g r m hg hr = go (properBeginning g r)
+messages-total g r m hg hr = go (isProperBeginning g r)
   where
-    go : (b : Bool) → differenceTotal (answerOf (cond b (declined (plainly 32)) (positions (differing g r)))) ≤ m
+    go : (b : Bool) → differenceTotal (compareAnswer (cond b (refused (plainly 32)) (positions (differing g r)))) ≤ m
     go true = nothing-of (plainly 32) m
     go false = omega (arith, total-of (differing g r), differing-few g r, longer-below g r (m + 1) (omega arith) (omega arith))
 
-with-radio : (g radio : List ℕ) → length g ≤ longestMessage → Bytes radio → (a : Answer) → reading radio ≡ a
-    → differenceTotal (answerOf (withRadio g radio a)) ≤ largestMessage
-with-radio g radio hg bytes (envelope.refused r) e = nothing-of (passingOn 31 (r .number)) largestMessage
+with-radio : (g radio : List ℕ) → length g ≤ messageRoom → Bytes radio → (a : Answer) → reading radio ≡ a
+    → differenceTotal (compareAnswer (withRadio g radio a)) ≤ largestMessage
+with-radio g radio hg bytes (envelope.refused r) e = nothing-of (passingOn 31 r) largestMessage
 with-radio g radio hg bytes (accepted f) e = messages-total g radio largestMessage (omega arith) (accepted-most radio f bytes e)
 
 with-record : (f : List ℕ) (n : ℕ) (radio : List ℕ) → Bytes radio → (j : Judged) → judgedAt f n ≡ j
-    → differenceTotal (answerOf (withRecord (messageOf (recordAt f n)) radio j)) ≤ largestMessage
+    → differenceTotal (compareAnswer (withRecord (messageOf (recordAt f n)) radio j)) ≤ largestMessage
 with-record f n radio bytes (bad r) e = nothing-of r largestMessage
 with-record f n radio bytes (good x) e =
     let size = good-size f n x e in
@@ -173,7 +173,7 @@ unfolding comparing
 compare-totals-few f n radio bytes = go (badFile f) (notThere f n)
   where
     go : (a b : Bool)
-        → differenceTotal (answerOf (cond a (declined (plainly 21)) (cond b (declined (plainly 22)) (withRecord (messageOf (recordAt f n)) radio (judgedAt f n))))) ≤ largestMessage
+        → differenceTotal (compareAnswer (cond a (refused (plainly 21)) (cond b (refused (plainly 22)) (withRecord (messageOf (recordAt f n)) radio (judgedAt f n))))) ≤ largestMessage
     go true b = nothing-of (plainly 21) largestMessage
     go false true = nothing-of (plainly 22) largestMessage
     go false false = with-record f n radio bytes (judgedAt f n) refl

@@ -6,18 +6,18 @@ use mathlib.Core.Path.{_≡_, refl, ap, sym}
 use Prim.Native.Nat.{ℕ, suc, _+_, _-_, _≤_, _<_}
 use native.Mathlib.Omega.{arith}
 use Rattle.envelope.specs.Fields.{Fields}
+use Rattle.envelope.specs.Refusals.{Refused, plainly}
 use Rattle.golden.specs.Checking.{CheckAnswer, counted, unlessBad, checkFrom, checking}
 use Rattle.golden.specs.Checking as check
 use Rattle.golden.specs.File.{badFile, countOf, recordAt, judgedAt}
 use Rattle.golden.specs.Finding.{NameFields, hasName, FindAnswer, decides, findFrom, finding}
 use Rattle.golden.specs.Finding as find
-use Rattle.golden.specs.Helpers.{holding, spoilt, openedAs, opening, Sight, ill, sought, other, seenAs}
+use Rattle.golden.specs.Helpers.{holding, bad, openedAs, opening, Sight, bad, sought, other, seenAs}
 use Rattle.golden.specs.Record.{storedLength, Judged, good, bad, judging}
-use Rattle.golden.specs.Refusal.{Refused, plainly}
 
 -- ---- what opening a record says of its judgement
 
-as-spoilt : (size : ℕ) (j : Judged) (r : Refused) → spoilt r ≡ openedAs size j → j ≡ bad r
+as-spoilt : (size : ℕ) (j : Judged) (r : Refused) → bad r ≡ openedAs size j → j ≡ bad r
 as-spoilt size (good f) r e = cc
 as-spoilt size (bad x) r e = cc
 
@@ -25,7 +25,7 @@ as-holding : (size l : ℕ) (j : Judged) (f : Fields) → holding l f ≡ opened
 as-holding size l (good g) f e = (cc, cc)
 as-holding size l (bad x) f e = (cc, cc)
 
-pub judged-bad : (s : List ℕ) (n : ℕ) (r : Refused) → spoilt r ≡ opening (recordAt s n) → judgedAt s n ≡ bad r
+pub judged-bad : (s : List ℕ) (n : ℕ) (r : Refused) → bad r ≡ opening (recordAt s n) → judgedAt s n ≡ bad r
 unfolding opening judgedAt
 judged-bad s n r e = as-spoilt (storedLength (recordAt s n)) (judging (recordAt s n)) r e
 
@@ -63,7 +63,7 @@ module _ (f : List ℕ) where
 
 -- what the sight of record n decides
 abbrev pub decided : Sight → ℕ → FindAnswer → FindAnswer
-decided (ill r) n others = find.refused r (n + 1)
+decided (bad r) n others = find.refused r (n + 1)
 decided sought n others = find.found n (n + 1)
 decided other n others = others
 

@@ -7,22 +7,22 @@ use Prim.Native.Nat.{ℕ}
 use native.Mathlib.Omega.{arith}
 use lib.Dec.{eqb}
 use lib.ListN.{length}
+use Rattle.envelope.specs.Refusals.{Refused}
 use Rattle.golden.specs.Comparing as compare
 use Rattle.golden.specs.Making as make
-use Rattle.golden.specs.Refusal.{Refused}
 use Rattle.golden.specs.Theorems.{RefusedComparisonKeepsList, RefusedMakingKeepsBuffer}
 
-answered : (b : Bool) (n : ℕ) (r : Refused) → cond b compare.same (compare.different n) ≡ compare.unlike r → ⊥
+answered : (b : Bool) (n : ℕ) (r : Refused) → cond b compare.same (compare.different n) ≡ compare.refused r → ⊥
 answered true n r e = let z : _≡_ {A = ℕ} 0 1 = cc in omega arith
 answered false n r e = let z : _≡_ {A = ℕ} 0 1 = cc in omega arith
 
-list-kept : (o : compare.Outcome) (entry : List ℕ) (r : Refused) → compare.answerOf o ≡ compare.unlike r → compare.listAfter o entry ≡ entry
-unfolding compare.answerOf compare.listAfter
-list-kept (compare.declined x) entry r e = refl
+list-kept : (o : compare.CompareOutcome) (entry : List ℕ) (r : Refused) → compare.compareAnswer o ≡ compare.refused r → compare.afterComparing o entry ≡ entry
+unfolding compare.compareAnswer compare.afterComparing
+list-kept (compare.refused x) entry r e = refl
 list-kept (compare.positions ks) entry r e = absurd (answered (eqb (length ks) 0) (length ks) r e)
 
-buffer-kept : (o : make.MakeAnswer) (m entry : List ℕ) (r : Refused) → o ≡ make.declined r → make.bufferAfter o m entry ≡ entry
-buffer-kept (make.declined x) m entry r e = refl
+buffer-kept : (o : make.MakeAnswer) (m entry : List ℕ) (r : Refused) → o ≡ make.refused r → make.afterMaking o m entry ≡ entry
+buffer-kept (make.refused x) m entry r e = refl
 buffer-kept make.made m entry r e = absurd (let z : _≡_ {A = ℕ} 0 1 = cc in omega arith)
 
 pub refused-comparison-keeps-list : RefusedComparisonKeepsList

@@ -11,6 +11,7 @@ pub mod OnlyLaws
 pub mod WalkLaws
 pub mod CheckedLaws
 pub mod SameLaws
+pub mod GivesLaws
 pub mod DemandLaws
 pub mod KeptLaws
 pub mod MadeLaws

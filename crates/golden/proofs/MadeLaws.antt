@@ -11,19 +11,19 @@ use lib.ListN.{length, take, drop, getD, replicate}
 use lib.Seq.{take-all, take-append-seam, drop-append-seam, drop-append-add}
 use Rattle.envelope.proofs.ReadingLaws.{accepted-least, long-not-1}
 use Rattle.envelope.proofs.WrittenLaws.{two-back}
-use Rattle.envelope.specs.Fields.{Fields, Answer, accepted, refusal}
+use Rattle.envelope.specs.Fields.{Fields, Refusal, Answer, accepted}
 use Rattle.envelope.specs.Fields as envelope
 use Rattle.envelope.specs.Message.{inTwo}
 use Rattle.envelope.specs.Numbers.{twoAt}
 use Rattle.envelope.specs.Reading.{reading}
+use Rattle.envelope.specs.Refusals.{plainly, passingOn, numbersOf}
 use Rattle.golden.specs.Checking.{counted, checkFrom, checking}
-use Rattle.golden.specs.Comparing.{differsAt, differing, properBeginning, positions, comparingMessages, comparing, same, answerOf}
+use Rattle.golden.specs.Comparing.{differsAt, differing, isProperBeginning, positions, comparingMessages, comparing, same, compareAnswer}
 use Rattle.golden.specs.File.{badFile, countOf, recordAt, judgedAt}
 use Rattle.golden.specs.Finding.{found, findFrom, finding}
-use Rattle.golden.specs.Making.{recordOf, MakeAnswer, made, declined, afterReading, making, bufferAfter}
+use Rattle.golden.specs.Making.{recordOf, MakeAnswer, made, refused, makingRead, making, afterMaking}
 use Rattle.golden.specs.Positions.{select}
-use Rattle.golden.specs.Record.{recordSize, headSize, longestMessage, storedWord, storedLength, messageOf, allZero, badLength, notClear, Judged, good, bad, byReading, judging}
-use Rattle.golden.specs.Refusal.{plainly, passingOn}
+use Rattle.golden.specs.Record.{recordSize, headSize, messageRoom, storedWord, storedLength, messageOf, allZero, badLength, notClear, Judged, good, bad, byReading, judging}
 use Rattle.golden.specs.Theorems.{nameOf, MadeIsGood, NeverTooShort}
 use Rattle.golden.proofs.MakingLaws.{record-length}
 use Rattle.golden.proofs.RecordLaws.{length-least, length-most, length-kept, record-good, message-long}
@@ -36,23 +36,23 @@ stored-back m = two-back (length m)
 
 message-back : (m : List ℕ) → messageOf (recordOf m) ≡ m
 unfolding recordOf
-message-back m = ap (λ (n : ℕ). take n (drop headSize (recordOf m))) (stored-back m) ∙ take-append-seam m (replicate (longestMessage - length m) 0)
+message-back m = ap (λ (n : ℕ). take n (drop headSize (recordOf m))) (stored-back m) ∙ take-append-seam m (replicate (messageRoom - length m) 0)
 
 zeros-clear : (k : ℕ) → allZero (replicate k 0) ≡ true
 unfolding allZero
 zeros-clear zero = refl
 zeros-clear (suc k) = zeros-clear k
 
-after-message : (m : List ℕ) → drop (headSize + length m) (recordOf m) ≡ replicate (longestMessage - length m) 0
+after-message : (m : List ℕ) → drop (headSize + length m) (recordOf m) ≡ replicate (messageRoom - length m) 0
 unfolding recordOf
 after-message m =
-    drop-append-add (inTwo (length m)) (m ++ replicate (longestMessage - length m) 0) (length m)
-    ∙ drop-append-seam m (replicate (longestMessage - length m) 0)
+    drop-append-add (inTwo (length m)) (m ++ replicate (messageRoom - length m) 0) (length m)
+    ∙ drop-append-seam m (replicate (messageRoom - length m) 0)
 
 clear-back : (m : List ℕ) → notClear (recordOf m) ≡ false
 clear-back m =
     ap (λ (r : List ℕ). not (allZero r)) (ap (λ (n : ℕ). drop (headSize + n) (recordOf m)) (stored-back m) ∙ after-message m)
-    ∙ ap not (zeros-clear (longestMessage - length m))
+    ∙ ap not (zeros-clear (messageRoom - length m))
 
 -- ---- comparing a message with itself
 
@@ -71,8 +71,8 @@ no-differences m =
     rw (le-ltb (length m) (length m) (omega arith))
     (select-none (differsAt m m) 0 (length m) (λ i a b. no-difference m i (omega arith)))
 
-not-its-own-beginning : (m : List ℕ) → properBeginning m m ≡ false
-unfolding properBeginning
+not-its-own-beginning : (m : List ℕ) → isProperBeginning m m ≡ false
+unfolding isProperBeginning
 not-its-own-beginning m = rw (le-ltb (length m) (length m) (omega arith))
 
 compares-same : (m : List ℕ) → comparingMessages m m ≡ positions []
@@ -81,7 +81,7 @@ compares-same m = rw (not-its-own-beginning m) (ap positions (no-differences m))
 
 -- ---- the file of one record
 
-module _ (m : List ℕ) (fields : Fields) (short : length m ≤ longestMessage) (accepts : reading m ≡ accepted fields) where
+module _ (m : List ℕ) (fields : Fields) (short : length m ≤ messageRoom) (accepts : reading m ≡ accepted fields) where
   abbrev file : List ℕ
   file = recordOf m
 
@@ -120,9 +120,9 @@ module _ (m : List ℕ) (fields : Fields) (short : length m ≤ longestMessage) 
   unfolding comparing
   compared = rw (whole, one, judged, accepts, first, message-back m) (compares-same m)
 
-  pub compares : answerOf (comparing file 0 m) ≡ same
-  unfolding answerOf
-  compares = ap answerOf compared
+  pub compares : compareAnswer (comparing file 0 m) ≡ same
+  unfolding compareAnswer
+  compares = ap compareAnswer compared
 
   pub finds : finding file (nameOf fields) ≡ found 0 1
   unfolding finding findFrom
@@ -133,24 +133,24 @@ module _ (m : List ℕ) (fields : Fields) (short : length m ≤ longestMessage) 
 
 record Makeable (m : List ℕ) : Type 0 where
   fields : Fields
-  short : length m ≤ longestMessage
+  short : length m ≤ messageRoom
   accepts : reading m ≡ accepted fields
 
-makeable : (m : List ℕ) (room : ℕ) (b : Bool) (x : Answer) → ltb longestMessage (length m) ≡ b → reading m ≡ x
-    → cond b (declined (plainly 33)) (afterReading x room) ≡ made → Makeable m
+makeable : (m : List ℕ) (room : ℕ) (b : Bool) (x : Answer) → ltb messageRoom (length m) ≡ b → reading m ≡ x
+    → cond b (refused (plainly 33)) (makingRead x room) ≡ made → Makeable m
 makeable m room true x l e o = absurd (let z : _≡_ {A = ℕ} 0 1 = cc in omega arith)
 makeable m room false (envelope.refused r) l e o = absurd (let z : _≡_ {A = ℕ} 0 1 = cc in omega arith)
-makeable m room false (accepted f) l e o = record { fields = f; short = ltb-false longestMessage (length m) l; accepts = e }
+makeable m room false (accepted f) l e o = record { fields = f; short = ltb-false messageRoom (length m) l; accepts = e }
 
 was-makeable : (m : List ℕ) (room : ℕ) → making m room ≡ made → Makeable m
 unfolding making
-was-makeable m room o = makeable m room (ltb longestMessage (length m)) (reading m) refl refl o
+was-makeable m room o = makeable m room (ltb messageRoom (length m)) (reading m) refl refl o
 
 pub made-is-good : MadeIsGood
 made-is-good m entry exit a kept e =
     let o : making m (length entry) ≡ made = sym (kept .0) ∙ e in
     let w = was-makeable m (length entry) o in
-    let x : exit ≡ recordOf m = kept .1 ∙ ap (λ (y : MakeAnswer). bufferAfter y m entry) o in
+    let x : exit ≡ recordOf m = kept .1 ∙ ap (λ (y : MakeAnswer). afterMaking y m entry) o in
     rw x
     (record {
       fields = w .fields;
@@ -162,27 +162,28 @@ made-is-good m entry exit a kept e =
 
 -- ---- 25 never carries 1
 
+refusalIn : Judged → Refusal
+refusalIn (good f) = record { number = 0 }
+refusalIn (bad (plainly n)) = record { number = 0 }
+refusalIn (bad (passingOn n r)) = r
+
 numberIn : Judged → ℕ
 numberIn (good f) = 0
-numberIn (bad r) = r .number
+numberIn (bad r) = numbersOf r .number
 
-readingIn : Judged → ℕ
-readingIn (good f) = 0
-readingIn (bad r) = r .reading
-
-bad-reading : (a b : Bool) (x : Answer) → cond a (bad (plainly 23)) (cond b (bad (plainly 24)) (byReading x)) ≡ bad (passingOn 25 1)
-    → (a ≡ false) × (x ≡ refusal 1)
-unfolding numberIn readingIn
-bad-reading true b x e = absurd (let z = ap numberIn e in omega arith)
-bad-reading false true x e = absurd (let z = ap numberIn e in omega arith)
-bad-reading false false (accepted f) e = absurd (let z = ap numberIn e in omega arith)
-bad-reading false false (envelope.refused r) e = (refl, λ i. envelope.refused (record { number = readingIn (e i) }))
+bad-reading : (a b : Bool) (x : Answer) (r : Refusal) → cond a (bad (plainly 23)) (cond b (bad (plainly 24)) (byReading x)) ≡ bad (passingOn 25 r)
+    → (a ≡ false) × (x ≡ envelope.refused r)
+unfolding numberIn refusalIn
+bad-reading true b x r e = absurd (let z = ap numberIn e in omega arith)
+bad-reading false true x r e = absurd (let z = ap numberIn e in omega arith)
+bad-reading false false (accepted f) r e = absurd (let z = ap numberIn e in omega arith)
+bad-reading false false (envelope.refused q) r e = (refl, ap (λ (j : Judged). envelope.refused (refusalIn j)) e)
 
 pub never-too-short : NeverTooShort
 unfolding judgedAt judging
-never-too-short f n l e =
+never-too-short f n x l e one =
     let r = recordAt f n in
-    let b = bad-reading (badLength (storedLength r)) (notClear r) (reading (messageOf r)) e in
+    let b = bad-reading (badLength (storedLength r)) (notClear r) (reading (messageOf r)) x e in
     let low = length-least (storedLength r) (b .0) in
     let high = length-most (storedLength r) (b .0) in
-    long-not-1 (messageOf r) (rw (message-long f n l high) low) (b .1)
+    long-not-1 (messageOf r) (rw (message-long f n l high) low) (b .1 ∙ λ i. envelope.refused (record { number = one i }))

@@ -7,11 +7,11 @@ use native.Mathlib.Omega.{arith}
 use borrow.Author.Tests.{lt-ltb, le-ltb, eq-eqb, ne-eqb}
 use lib.ListN.{length, take, drop, replicate, drop-of-length-le, length-append, length-replicate}
 use lib.Seq.{take-length}
-use Rattle.envelope.specs.Fields.{Fields, accepted, refused}
+use Rattle.envelope.specs.Fields.{Fields, Refusal, accepted, refused}
 use Rattle.envelope.specs.Reading.{reading}
-use Rattle.golden.specs.Making.{recordOf, MakeAnswer, made, declined, making, bufferAfter}
-use Rattle.golden.specs.Record.{recordSize, longestMessage}
-use Rattle.golden.specs.Refusal.{plainly, passingOn}
+use Rattle.envelope.specs.Refusals.{plainly, passingOn}
+use Rattle.golden.specs.Making.{recordOf, MakeAnswer, made, refused, making, afterMaking}
+use Rattle.golden.specs.Record.{recordSize, messageRoom}
 
 drop-replicate : (n k : ℕ) → drop {A = ℕ} n (replicate k 0) ≡ replicate (k - n) 0
 drop-replicate zero k = let e : k - 0 ≡ k = omega arith in rw e
@@ -19,16 +19,16 @@ drop-replicate (suc n) zero = let e : 0 - suc n ≡ 0 = omega arith in rw e
 drop-replicate (suc n) (suc k) = let e : suc k - suc n ≡ k - n = omega arith in rw e (drop-replicate n k)
 
 -- length, message and zeros, as the copy into a fresh record leaves them
-pub fresh-record : (m l : List ℕ) → l ≡ take (length m) m ++ drop (length m) (replicate longestMessage 0)
+pub fresh-record : (m l : List ℕ) → l ≡ take (length m) m ++ drop (length m) (replicate messageRoom 0)
     → (length m / 256) ∷ (length m % 256) ∷ (l ++ []) ≡ recordOf m
 unfolding recordOf
 fresh-record m l e =
     ap (λ (x : List ℕ). (length m / 256) ∷ (length m % 256) ∷ x)
-    (append-nil l ∙ e ∙ ap (λ (x : List ℕ). x ++ drop (length m) (replicate longestMessage 0)) (take-length m) ∙ ap (λ (x : List ℕ). m ++ x) (drop-replicate (length m) longestMessage))
+    (append-nil l ∙ e ∙ ap (λ (x : List ℕ). x ++ drop (length m) (replicate messageRoom 0)) (take-length m) ∙ ap (λ (x : List ℕ). m ++ x) (drop-replicate (length m) messageRoom))
 
-pub record-length : (m : List ℕ) → length m ≤ longestMessage → length (recordOf m) ≡ recordSize
+pub record-length : (m : List ℕ) → length m ≤ messageRoom → length (recordOf m) ≡ recordSize
 unfolding recordOf
-record-length m h = rw (length-append m (replicate (longestMessage - length m) 0), length-replicate) (omega arith)
+record-length m h = rw (length-append m (replicate (messageRoom - length m) 0), length-replicate) (omega arith)
 
 -- a whole record copied over a buffer of its size
 pub copied-record : (b r x : List ℕ) → length b ≡ recordSize → length x ≡ recordSize → r ≡ take (length x) x ++ drop (length x) b → r ≡ x
@@ -37,20 +37,20 @@ copied-record b r x hb hx e =
 
 -- ---- the cases of making
 
-pub no-making : (a : MakeAnswer) (m entry : List ℕ) (x : MakeAnswer) → x ≡ a → (r : _) → a ≡ declined r → (a ≡ x) × (entry ≡ bufferAfter x m entry)
+pub no-making : (a : MakeAnswer) (m entry : List ℕ) (x : MakeAnswer) → x ≡ a → (r : _) → a ≡ refused r → (a ≡ x) × (entry ≡ afterMaking x m entry)
 no-making a m entry x e r d = (sym e, rw (e, d))
 
 module _ (m : List ℕ) (room : ℕ) where
-  pub is-33 : longestMessage < length m → making m room ≡ declined (plainly 33)
+  pub is-33 : messageRoom < length m → making m room ≡ refused (plainly 33)
   unfolding making
   is-33 h = rw (lt-ltb _ _ h)
 
-  module _ (h : length m ≤ longestMessage) where
-    pub is-34 : (n : ℕ) → reading m ≡ refused (record { number = n }) → making m room ≡ declined (passingOn 34 n)
+  module _ (h : length m ≤ messageRoom) where
+    pub is-34 : (r : Refusal) → reading m ≡ refused r → making m room ≡ refused (passingOn 34 r)
     unfolding making
-    is-34 n e = rw (le-ltb _ _ h, e)
+    is-34 r e = rw (le-ltb _ _ h, e)
 
-    pub is-35 : (f : Fields) → reading m ≡ accepted f → (room ≡ recordSize → ⊥) → making m room ≡ declined (plainly 35)
+    pub is-35 : (f : Fields) → reading m ≡ accepted f → (room ≡ recordSize → ⊥) → making m room ≡ refused (plainly 35)
     unfolding making
     is-35 f e n = rw (le-ltb _ _ h, e, ne-eqb _ _ n)
 

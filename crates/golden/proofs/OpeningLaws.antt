@@ -9,14 +9,14 @@ use borrow.Author.Tests.{not-true, not-false}
 use lib.ListN.{length, take, drop}
 use Rattle.envelope.specs.Fields.{Answer}
 use Rattle.envelope.specs.Reading.{reading}
+use Rattle.envelope.specs.Refusals.{plainly}
 use Rattle.golden.specs.File.{recordAt}
-use Rattle.golden.specs.Helpers.{Opened, spoilt, openedAs, opening}
+use Rattle.golden.specs.Helpers.{Opened, bad, openedAs, opening}
 use Rattle.golden.specs.Record.{recordSize, headSize, storedLength, allZero, badLength, byReading, judging}
-use Rattle.golden.specs.Refusal.{plainly}
 use Rattle.golden.proofs.RecordLaws.{part-to-end}
 
 module _ (r : List ℕ) (l : ℕ) (e : l ≡ storedLength r) where
-  pub opened-23 : badLength l ≡ true → spoilt (plainly 23) ≡ opening r
+  pub opened-23 : badLength l ≡ true → bad (plainly 23) ≡ opening r
   unfolding opening judging
   opened-23 h = rw (← e, h)
 
@@ -24,7 +24,7 @@ module _ (r : List ℕ) (l : ℕ) (e : l ≡ storedLength r) where
     zeros : b ≡ allZero (drop (headSize + l) r)
     zeros = z ∙ ap allZero (part-to-end (headSize + l) r)
 
-    pub opened-24 : not b ≡ true → spoilt (plainly 24) ≡ opening r
+    pub opened-24 : not b ≡ true → bad (plainly 24) ≡ opening r
     unfolding opening judging
     opened-24 n = rw (← e, h, ← zeros, not-true b n)
 

@@ -14,9 +14,9 @@ use Rattle.envelope.proofs.BoolLaws.{both, neither}
 use Rattle.envelope.specs.Fields.{Fields, Answer, accepted, refused}
 use Rattle.envelope.specs.Layout.{leastSize}
 use Rattle.envelope.specs.Reading.{reading}
+use Rattle.envelope.specs.Refusals.{Refused}
 use Rattle.golden.specs.File.{countOf, recordAt}
-use Rattle.golden.specs.Record.{recordSize, headSize, longestMessage, storedLength, messageOf, allZero, badLength, notClear, Judged, good, bad, byReading, judging}
-use Rattle.golden.specs.Refusal.{Refused}
+use Rattle.golden.specs.Record.{recordSize, headSize, messageRoom, storedLength, messageOf, allZero, badLength, notClear, Judged, good, bad, byReading, judging}
 
 -- ---- a scan for zeros, one byte on
 
@@ -47,15 +47,15 @@ part-to-end k r = take-all (length r - k) (drop k r) (omega (arith, length-drop 
 
 pub length-least : (l : ℕ) → badLength l ≡ false → leastSize ≤ l
 unfolding badLength
-length-least l e = ltb-false l leastSize (neither (ltb l leastSize) (ltb longestMessage l) e .0)
+length-least l e = ltb-false l leastSize (neither (ltb l leastSize) (ltb messageRoom l) e .0)
 
-pub length-most : (l : ℕ) → badLength l ≡ false → l ≤ longestMessage
+pub length-most : (l : ℕ) → badLength l ≡ false → l ≤ messageRoom
 unfolding badLength
-length-most l e = ltb-false longestMessage l (neither (ltb l leastSize) (ltb longestMessage l) e .1)
+length-most l e = ltb-false messageRoom l (neither (ltb l leastSize) (ltb messageRoom l) e .1)
 
-pub length-kept : (l : ℕ) → leastSize ≤ l → l ≤ longestMessage → badLength l ≡ false
+pub length-kept : (l : ℕ) → leastSize ≤ l → l ≤ messageRoom → badLength l ≡ false
 unfolding badLength
-length-kept l h k = rw (le-ltb l leastSize h, le-ltb longestMessage l k)
+length-kept l h k = rw (le-ltb l leastSize h, le-ltb messageRoom l k)
 
 -- ---- a good record
 
@@ -95,7 +95,7 @@ record-good r f g = rw (g .size, g .clear, g .accepts)
 pub record-long : (f : List ℕ) (n : ℕ) → n < countOf f → length (recordAt f n) ≡ recordSize
 record-long f n l = length-take-le recordSize (drop (n * recordSize) f) (rw length-drop (omega arith))
 
-pub message-long : (f : List ℕ) (n : ℕ) → n < countOf f → storedLength (recordAt f n) ≤ longestMessage
+pub message-long : (f : List ℕ) (n : ℕ) → n < countOf f → storedLength (recordAt f n) ≤ messageRoom
     → length (messageOf (recordAt f n)) ≡ storedLength (recordAt f n)
 message-long f n l short =
     length-take-le (storedLength (recordAt f n)) (drop headSize (recordAt f n)) (rw length-drop (omega (arith, record-long f n l)))

@@ -14,13 +14,13 @@ use Rattle.envelope.proofs.BoolLaws.{neither}
 use Rattle.envelope.specs.Fields.{Answer, accepted}
 use Rattle.envelope.specs.Fields as envelope
 use Rattle.envelope.specs.Reading.{reading}
+use Rattle.envelope.specs.Refusals.{Refused, plainly}
 use Rattle.golden.specs.Checking.{unlessBad, checkFrom, checking}
 use Rattle.golden.specs.Checking as check
-use Rattle.golden.specs.Comparing.{differsAt, longer, differing, properBeginning, Outcome, positions, declined, comparingMessages, withRadio, withRecord, comparing, same, different, answerOf}
+use Rattle.golden.specs.Comparing.{differsAt, longer, differing, isProperBeginning, CompareOutcome, positions, refused, comparingMessages, withRadio, withRecord, comparing, same, different, compareAnswer}
 use Rattle.golden.specs.File.{badFile, countOf, notThere, recordAt, judgedAt}
 use Rattle.golden.specs.Positions.{select}
 use Rattle.golden.specs.Record.{Judged, good, bad, messageOf}
-use Rattle.golden.specs.Refusal.{Refused, plainly}
 use Rattle.golden.specs.Theorems.{GoodAt, FirstBad, not-a-file, bad-record, CheckNamesTheFirst, SameIsEqual}
 
 -- ---- same
@@ -69,22 +69,22 @@ module _ (g r : List ℕ) (e : differing g r ≡ []) where
           ext-getD 0 g r lengths (λ k h. in-both k (rw (le-ltb (length g) (length r) (omega arith)) h) .2)
 
 -- an outcome that is told as same has no position
-no-position : (o : Outcome) → answerOf o ≡ same → o ≡ positions []
-unfolding answerOf
+no-position : (o : CompareOutcome) → compareAnswer o ≡ same → o ≡ positions []
+unfolding compareAnswer
 no-position (positions []) e = refl
 no-position (positions (k ∷ ks)) e =
     let d : different (length (k ∷ ks)) ≡ same = rw (ne-eqb (length (k ∷ ks)) 0 (λ h. omega arith)) at e in
     absurd (let z : _≡_ {A = ℕ} 0 1 = cc in omega arith)
-no-position (declined x) e = absurd (let z : _≡_ {A = ℕ} 0 1 = cc in omega arith)
+no-position (refused x) e = absurd (let z : _≡_ {A = ℕ} 0 1 = cc in omega arith)
 
-past : (b : Bool) (x : Refused) (o : Outcome) → cond b (declined x) o ≡ positions [] → o ≡ positions []
+past : (b : Bool) (x : Refused) (o : CompareOutcome) → cond b (refused x) o ≡ positions [] → o ≡ positions []
 past true x o e = absurd (let z : _≡_ {A = ℕ} 0 1 = cc in omega arith)
 past false x o e = e
 
 of-messages : (g r : List ℕ) → comparingMessages g r ≡ positions [] → g ≡ r
 unfolding comparingMessages
 of-messages g r e =
-    let p : positions (differing g r) ≡ positions [] = past (properBeginning g r) (plainly 32) (positions (differing g r)) e in
+    let p : positions (differing g r) ≡ positions [] = past (isProperBeginning g r) (plainly 32) (positions (differing g r)) e in
     let d : differing g r ≡ [] = cc in
     equal-messages g r d
 

@@ -10,10 +10,10 @@ use lib.ListN.{take, drop}
 use lib.Seq.{drop-drop}
 use Rattle.envelope.proofs.RebuiltLaws.{part-of-front}
 use Rattle.envelope.specs.Fields.{Fields, partOf}
+use Rattle.envelope.specs.Refusals.{plainly}
 use Rattle.golden.specs.File.{badFile, countOf, notThere, recordAt, judgedAt}
 use Rattle.golden.specs.Listing.{entryOf, entryAt}
-use Rattle.golden.specs.Record.{recordSize, headSize, longestMessage, storedLength, messageOf, Judged, good}
-use Rattle.golden.specs.Refusal.{plainly}
+use Rattle.golden.specs.Record.{recordSize, headSize, messageRoom, storedLength, messageOf, Judged, good}
 use Rattle.golden.specs.Stepping.{StepAnswer, refused, end, messagePart, stepOf, stepAt}
 use Rattle.golden.proofs.RecordLaws.{good-record, length-most}
 
@@ -45,7 +45,7 @@ reason f n = go (badFile f) refl (notThere f n) refl
 
 -- ---- the message of a good record
 
-pub good-size : (f : List ℕ) (n : ℕ) (fields : Fields) → judgedAt f n ≡ good fields → storedLength (recordAt f n) ≤ longestMessage
+pub good-size : (f : List ℕ) (n : ℕ) (fields : Fields) → judgedAt f n ≡ good fields → storedLength (recordAt f n) ≤ messageRoom
 unfolding judgedAt
 good-size f n fields e = length-most _ (good-record (recordAt f n) fields e .size)
 

@@ -10,8 +10,8 @@ use native.Mathlib.Decide.{decLe}
 use native.Mathlib.Numerals.{add-one}
 use native.Mathlib.Omega.{arith}
 use borrow.Author.Tests.{le-leb, lt-leb}
+use Rattle.envelope.specs.Refusals.{plainly}
 use Rattle.golden.specs.File.{badFile, countOf, judgedAt}
-use Rattle.golden.specs.Refusal.{plainly}
 use Rattle.golden.specs.Stepping.{refused, end, stepOf, stepAt, nextAfter, toldReached}
 use Rattle.golden.specs.Theorems.{WalkOver, FileWalksInOrder, OtherFileStays}
 use Rattle.golden.specs.declared.stepper.Reached.{Reached}

@@ -4,11 +4,12 @@ use Prim.Native.Nat.{ℕ, zero, suc, _+_}
 use mathlib.Core.Bool.{cond}
 use mathlib.Core.List.{List}
 use mathlib.Core.Path.{_≡_}
+use Rattle.envelope.specs.Refusals.{Refused, plainly}
 use Rattle.golden.specs.File.{badFile, countOf, judgedAt}
 use Rattle.golden.specs.Record.{Judged, good, bad}
-use Rattle.golden.specs.Refusal.{Refused, plainly, toldRecordFault}
+use Rattle.golden.specs.Refusal.{toldGoldenRefusal}
 use Rattle.golden.specs.declared.checker.Checking.{Checking}
-use Rattle.golden.specs.declared.checker.Checking.the-variants.{Count, NotAFile, Bad}
+use Rattle.golden.specs.declared.checker.Checking.the-variants.{Count, Refused as CheckRefused}
 
 pub data CheckAnswer : Type 0 where
   counted : ℕ → CheckAnswer
@@ -29,8 +30,7 @@ checking f = cond (badFile f) (refused 0 (plainly 21)) (checkFrom f 0 (countOf f
 
 abbrev pub toldChecking : Checking → CheckAnswer
 toldChecking (Count n) = counted n
-toldChecking NotAFile = refused 0 (plainly 21)
-toldChecking (Bad n fault) = refused n (toldRecordFault fault)
+toldChecking (CheckRefused n r) = refused n (toldGoldenRefusal r)
 
 -- what `check` promises
 abbrev pub Checks : List ℕ → Checking → Type 0

@@ -6,11 +6,12 @@ use mathlib.Core.List.{List}
 use mathlib.Core.Path.{_≡_}
 use lib.Dec.{eqb}
 use Rattle.envelope.specs.Fields.{Fields}
+use Rattle.envelope.specs.Refusals.{Refused, plainly}
 use Rattle.golden.specs.File.{badFile, countOf, judgedAt}
 use Rattle.golden.specs.Record.{Judged, good, bad}
-use Rattle.golden.specs.Refusal.{Refused, plainly, toldRecordFault}
+use Rattle.golden.specs.Refusal.{toldGoldenRefusal}
 use Rattle.golden.specs.declared.finder.Finding.{Finding}
-use Rattle.golden.specs.declared.finder.Finding.the-variants.{Found, Missing, NotAFile, Bad}
+use Rattle.golden.specs.declared.finder.Finding.the-variants.{Found, Refused as FindRefused}
 use Rattle.golden.specs.declared.finder.Name.{Name}
 
 -- what is sought
@@ -43,9 +44,7 @@ toldName name = record { messageType = name .«message_type»; number = name .nu
 
 abbrev pub toldFinding : Finding → FindAnswer
 toldFinding (Found n opened) = found n opened
-toldFinding (Missing opened) = refused (plainly 27) opened
-toldFinding NotAFile = refused (plainly 21) 0
-toldFinding (Bad fault opened) = refused (toldRecordFault fault) opened
+toldFinding (FindRefused r opened) = refused (toldGoldenRefusal r) opened
 
 -- what `find` promises
 abbrev pub Finds : List ℕ → Name → Finding → Type 0

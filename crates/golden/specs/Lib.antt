@@ -9,5 +9,6 @@ pub mod Listing
 pub mod Positions
 pub mod Comparing
 pub mod Making
+pub mod Gives
 pub mod Helpers
 pub mod Theorems

@@ -4,9 +4,10 @@ use Prim.Native.Nat.{ℕ}
 use mathlib.Core.Bool.{cond}
 use mathlib.Core.List.{List}
 use mathlib.Core.Path.{_≡_}
+use Rattle.envelope.specs.Refusals.{Refused, plainly}
 use Rattle.golden.specs.File.{badFile, countOf, notThere, recordAt, judgedAt}
 use Rattle.golden.specs.Record.{storedLength, Judged, good, bad}
-use Rattle.golden.specs.Refusal.{Refused, plainly, toldRecordFault}
+use Rattle.golden.specs.Refusal.{toldGoldenRefusal}
 use Rattle.golden.specs.declared.lister.Counting.{Counting}
 use Rattle.golden.specs.declared.lister.Counting.the-variants as counts
 use Rattle.golden.specs.declared.lister.Entry.{Entry}
@@ -21,7 +22,7 @@ counting f = cond (badFile f) (refused (plainly 21)) (counted (countOf f))
 
 abbrev pub toldCounting : Counting → CountAnswer
 toldCounting (counts.Count n) = counted n
-toldCounting counts.NotAFile = refused (plainly 21)
+toldCounting (counts.Refused r) = refused (toldGoldenRefusal r)
 
 -- what `count` promises
 abbrev pub Counts : List ℕ → Counting → Type 0
@@ -29,23 +30,21 @@ Counts f r = toldCounting r ≡ counting f
 
 pub data EntryAnswer : Type 0 where
   line : (messageType number size : ℕ) → EntryAnswer
-  refusedLine : Refused → EntryAnswer
+  refused : Refused → EntryAnswer
 
 abbrev pub entryOf : List ℕ → ℕ → Judged → EntryAnswer
 entryOf f n (good fields) = line (fields .header .messageType) (fields .header .number) (storedLength (recordAt f n))
-entryOf f n (bad r) = refusedLine r
+entryOf f n (bad r) = refused r
 
 unfoldable pub entryAt : List ℕ → ℕ → EntryAnswer
 entryAt f n =
-    cond (badFile f) (refusedLine (plainly 21))
-    (cond (notThere f n) (refusedLine (plainly 22))
+    cond (badFile f) (refused (plainly 21))
+    (cond (notThere f n) (refused (plainly 22))
     (entryOf f n (judgedAt f n)))
 
 abbrev pub toldEntry : Entry → EntryAnswer
 toldEntry (entries.Good messageType number size) = line messageType number size
-toldEntry (entries.Bad fault) = refusedLine (toldRecordFault fault)
-toldEntry entries.NoRecord = refusedLine (plainly 22)
-toldEntry entries.NotAFile = refusedLine (plainly 21)
+toldEntry (entries.Refused r) = refused (toldGoldenRefusal r)
 
 -- what `entry_at` promises
 abbrev pub Enters : List ℕ → ℕ → Entry → Type 0

@@ -6,42 +6,41 @@ use mathlib.Core.List.{List, _++_}
 use mathlib.Core.Path.{_≡_}
 use lib.Dec.{eqb, ltb}
 use lib.ListN.{length, replicate}
-use Rattle.envelope.specs.Fields.{Answer, accepted, refused}
+use Rattle.envelope.specs.Fields.{Answer, accepted}
+use Rattle.envelope.specs.Fields as read
 use Rattle.envelope.specs.Message.{inTwo}
 use Rattle.envelope.specs.Reading.{reading}
-use Rattle.envelope.specs.Told.{toldFault}
-use Rattle.golden.specs.Record.{recordSize, longestMessage}
-use Rattle.golden.specs.Refusal.{Refused, plainly, passingOn}
+use Rattle.envelope.specs.Refusals.{Refused, plainly, passingOn}
+use Rattle.golden.specs.Record.{recordSize, messageRoom}
+use Rattle.golden.specs.Refusal.{toldGoldenRefusal}
 use Rattle.golden.specs.declared.maker.Making.{Making}
-use Rattle.golden.specs.declared.maker.Making.the-variants.{Made, TooLong, Unread, WrongBuffer}
+use Rattle.golden.specs.declared.maker.Making.the-variants.{Made, Refused as MakeRefused}
 
 -- the record of a message: its length, the message, and zeros
 unfoldable pub recordOf : List ℕ → List ℕ
-recordOf m = inTwo (length m) ++ m ++ replicate (longestMessage - length m) 0
+recordOf m = inTwo (length m) ++ m ++ replicate (messageRoom - length m) 0
 
 pub data MakeAnswer : Type 0 where
   made : MakeAnswer
-  declined : Refused → MakeAnswer
+  refused : Refused → MakeAnswer
 
 -- 34, then 35
-abbrev pub afterReading : Answer → ℕ → MakeAnswer
-afterReading (refused r) room = declined (passingOn 34 (r .number))
-afterReading (accepted f) room = cond (not (eqb room recordSize)) (declined (plainly 35)) made
+abbrev pub makingRead : Answer → ℕ → MakeAnswer
+makingRead (read.refused r) room = refused (passingOn 34 r)
+makingRead (accepted f) room = cond (not (eqb room recordSize)) (refused (plainly 35)) made
 
 unfoldable pub making : List ℕ → ℕ → MakeAnswer
-making m room = cond (ltb longestMessage (length m)) (declined (plainly 33)) (afterReading (reading m) room)
+making m room = cond (ltb messageRoom (length m)) (refused (plainly 33)) (makingRead (reading m) room)
 
 -- the buffer afterwards
-abbrev pub bufferAfter : MakeAnswer → List ℕ → List ℕ → List ℕ
-bufferAfter made m entry = recordOf m
-bufferAfter (declined r) m entry = entry
+abbrev pub afterMaking : MakeAnswer → List ℕ → List ℕ → List ℕ
+afterMaking made m entry = recordOf m
+afterMaking (refused r) m entry = entry
 
 abbrev pub toldMaking : Making → MakeAnswer
 toldMaking Made = made
-toldMaking TooLong = declined (plainly 33)
-toldMaking (Unread r) = declined (passingOn 34 (toldFault (r .fault)))
-toldMaking WrongBuffer = declined (plainly 35)
+toldMaking (MakeRefused r) = refused (toldGoldenRefusal r)
 
 -- what `make` promises, of its answer and of the whole buffer afterwards
 abbrev pub Makes : List ℕ → List ℕ → Making → List ℕ → Type 0
-Makes m entry r exit = (toldMaking r ≡ making m (length entry)) × (exit ≡ bufferAfter (making m (length entry)) m entry)
+Makes m entry r exit = (toldMaking r ≡ making m (length entry)) × (exit ≡ afterMaking (making m (length entry)) m entry)

@@ -9,7 +9,7 @@ use Rattle.envelope.specs.Fields.{Fields, Answer, accepted, refused}
 use Rattle.envelope.specs.Layout.{leastSize}
 use Rattle.envelope.specs.Numbers.{twoAt}
 use Rattle.envelope.specs.Reading.{reading}
-use Rattle.golden.specs.Refusal.{Refused, plainly, passingOn}
+use Rattle.envelope.specs.Refusals.{Refused, plainly, passingOn}
 
 abbrev pub recordSize : ℕ
 recordSize = 512
@@ -18,8 +18,9 @@ recordSize = 512
 abbrev pub headSize : ℕ
 headSize = 2
 
-abbrev pub longestMessage : ℕ
-longestMessage = recordSize - headSize
+-- for a message
+abbrev pub messageRoom : ℕ
+messageRoom = recordSize - headSize
 
 -- the number in bytes 0 and 1, and the length that it states
 unfoldable pub storedWord : List ℕ → ℕ
@@ -37,7 +38,7 @@ allZero (b ∷ bs) = eqb b 0 && allZero bs
 
 -- 23
 unfoldable pub badLength : ℕ → Bool
-badLength l = ltb l leastSize || ltb longestMessage l
+badLength l = ltb l leastSize || ltb messageRoom l
 
 -- 24
 abbrev pub notClear : List ℕ → Bool
@@ -51,7 +52,7 @@ pub data Judged : Type 0 where
 -- 25
 abbrev pub byReading : Answer → Judged
 byReading (accepted f) = good f
-byReading (refused r) = bad (passingOn 25 (r .number))
+byReading (refused r) = bad (passingOn 25 r)
 
 unfoldable pub judging : List ℕ → Judged
 judging r =

@@ -1,32 +1,25 @@
--- A refusal of the golden file: its number, and the number that reading gave, or 0 where reading had no part in it. RULES 5.
--- The code's faults are told in these.
+-- What each refusal of the golden file is on paper: its number, and for 25, 31 and 34 the refusal of reading too, passed on whole. RULES 5.
+-- One table for all operations; which of them each can give is said in specs/Gives.
 use Prim.Native.Nat.{ℕ}
-use mathlib.Core.Path.{_≡_}
-use Rattle.envelope.specs.Told.{toldFault}
-use Rattle.golden.specs.declared.record.Numbers.{Numbers}
-use Rattle.golden.specs.declared.record.RecordFault.{RecordFault}
-use Rattle.golden.specs.declared.record.RecordFault.the-variants.{BadLength, NotClear, Unread}
+use Rattle.envelope.specs.Refusals.{Refused, plainly, passingOn, NumbersOf}
+use Rattle.envelope.specs.Told.{toldRefusal}
+use Rattle.envelope.specs.declared.refusals.Numbers.{Numbers}
+use Rattle.golden.specs.declared.refusal.Refusal.{Refusal}
+use Rattle.golden.specs.declared.refusal.Refusal.the-variants.{NotAFile, NoRecord, BadLength, NotClear, RecordRefused, NotFound, RadioRefused, Beginning, TooLong, MessageRefused, WrongBuffer}
 
-pub record Refused : Type 0 where
-  pub number : ℕ
-  pub reading : ℕ
+abbrev pub toldGoldenRefusal : Refusal → Refused
+toldGoldenRefusal NotAFile = plainly 21
+toldGoldenRefusal NoRecord = plainly 22
+toldGoldenRefusal BadLength = plainly 23
+toldGoldenRefusal NotClear = plainly 24
+toldGoldenRefusal (RecordRefused r) = passingOn 25 (toldRefusal r)
+toldGoldenRefusal NotFound = plainly 27
+toldGoldenRefusal (RadioRefused r) = passingOn 31 (toldRefusal r)
+toldGoldenRefusal Beginning = plainly 32
+toldGoldenRefusal TooLong = plainly 33
+toldGoldenRefusal (MessageRefused r) = passingOn 34 (toldRefusal r)
+toldGoldenRefusal WrongBuffer = plainly 35
 
--- a refusal in which reading had no part
-abbrev pub plainly : ℕ → Refused
-plainly n = record { number = n; reading = 0 }
-
--- one that passes on the refusal of reading
-abbrev pub passingOn : ℕ → ℕ → Refused
-passingOn n r = record { number = n; reading = r }
-
-abbrev pub toldRecordFault : RecordFault → Refused
-toldRecordFault BadLength = plainly 23
-toldRecordFault NotClear = plainly 24
-toldRecordFault (Unread r) = passingOn 25 (toldFault (r .fault))
-
-abbrev pub toldNumbers : Numbers → Refused
-toldNumbers n = record { number = n .number; reading = n .reading }
-
--- what `RecordFault::numbers` promises
-abbrev pub NumbersRecordFault : RecordFault → Numbers → Type 0
-NumbersRecordFault fault r = toldNumbers r ≡ toldRecordFault fault
+-- what `Refusal::numbers` promises
+abbrev pub NumbersGoldenRefusal : Refusal → Numbers → Type 0
+NumbersGoldenRefusal refusal r = NumbersOf (toldGoldenRefusal refusal) r

@@ -5,12 +5,13 @@ use mathlib.Core.Bool.{cond}
 use mathlib.Core.List.{List}
 use mathlib.Core.Path.{_≡_}
 use Rattle.envelope.specs.Fields.{Span}
+use Rattle.envelope.specs.Refusals.{Refused, plainly}
 use Rattle.envelope.specs.Told.{toldPart}
 use Rattle.golden.specs.File.{badFile, notThere, recordAt, judgedAt}
 use Rattle.golden.specs.Record.{recordSize, headSize, storedLength, Judged, good, bad}
-use Rattle.golden.specs.Refusal.{Refused, plainly, toldRecordFault}
+use Rattle.golden.specs.Refusal.{toldGoldenRefusal}
 use Rattle.golden.specs.declared.stepper.Reached.{Reached}
-use Rattle.golden.specs.declared.stepper.Reached.the-variants.{Message, Bad, NotAFile, End}
+use Rattle.golden.specs.declared.stepper.Reached.the-variants.{Message, Refused as StepRefused, End}
 use Rattle.golden.specs.declared.stepper.Stepping.{Stepping}
 
 pub data StepAnswer : Type 0 where
@@ -37,8 +38,7 @@ nextAfter f n = cond (badFile f) n (cond (notThere f n) n (n + 1))
 
 abbrev pub toldReached : Reached → StepAnswer
 toldReached (Message part) = message (toldPart part)
-toldReached (Bad fault) = refused (toldRecordFault fault)
-toldReached NotAFile = refused (plainly 21)
+toldReached (StepRefused r) = refused (toldGoldenRefusal r)
 toldReached End = end
 
 -- what `step` promises

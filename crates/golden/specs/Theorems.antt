@@ -9,23 +9,23 @@ use denote.Ref.{RefT, now}
 use lib.ListN.{length}
 use Rattle.envelope.specs.AnyWindow.{TwoAndTwoAt, OneDifference}
 use Rattle.envelope.specs.Demand3.{DeclaresCrc, Window, SameOutside}
-use Rattle.envelope.specs.Fields.{Fields, accepted}
+use Rattle.envelope.specs.Fields.{Fields, Refusal, accepted}
 use Rattle.envelope.specs.Layout.{largestMessage}
 use Rattle.envelope.specs.Numbers.{byteAt}
 use Rattle.envelope.specs.Promise.{Bytes}
 use Rattle.envelope.specs.Reading.{reading}
+use Rattle.envelope.specs.Refusals.{Refused, plainly, passingOn}
 use Rattle.envelope.specs.TwoBits.{bitsApart, summed, fieldOf}
 use Rattle.golden.specs.Checking.{CheckAnswer, counted, checking}
 use Rattle.golden.specs.Checking as check
-use Rattle.golden.specs.Comparing.{properBeginning, comparing, CompareAnswer, same, different, unlike, answerOf, toldComparison, Compares}
+use Rattle.golden.specs.Comparing.{isProperBeginning, comparing, CompareAnswer, same, different, refused, compareAnswer, toldComparison, Compares}
 use Rattle.golden.specs.File.{mostRecords, badFile, countOf, recordAt, judgedAt}
 use Rattle.golden.specs.Finding.{NameFields, hasName, FindAnswer, found, finding}
 use Rattle.golden.specs.Finding as find
 use Rattle.golden.specs.Listing.{CountAnswer, counting}
 use Rattle.golden.specs.Listing as listing
-use Rattle.golden.specs.Making.{made, declined, toldMaking, Makes}
-use Rattle.golden.specs.Record.{recordSize, headSize, longestMessage, messageOf, good, bad}
-use Rattle.golden.specs.Refusal.{Refused, plainly, passingOn}
+use Rattle.golden.specs.Making.{made, refused, toldMaking, Makes}
+use Rattle.golden.specs.Record.{recordSize, headSize, messageRoom, messageOf, good, bad}
 use Rattle.golden.specs.Stepping.{StepAnswer, end, stepOf, stepAt, nextAfter, toldReached}
 use Rattle.golden.specs.Stepping as step
 use Rattle.golden.specs.Walking.{Begins, Walks}
@@ -99,7 +99,7 @@ FindsTheFirst = (f : List ℕ) (name : NameFields) (n : ℕ) → checking f ≡ 
 
 -- where it answers same, the record's message and the radio's have the same bytes
 abbrev pub SameIsEqual : Type 0
-SameIsEqual = (f : List ℕ) (n : ℕ) (radio : List ℕ) → answerOf (comparing f n radio) ≡ same → messageOf (recordAt f n) ≡ radio
+SameIsEqual = (f : List ℕ) (n : ℕ) (radio : List ℕ) → compareAnswer (comparing f n radio) ≡ same → messageOf (recordAt f n) ≡ radio
 
 -- ---- make
 
@@ -111,7 +111,7 @@ pub record MadeGood (m exit : List ℕ) : Type 0 where
   pub fields : Fields
   pub accepts : reading m ≡ accepted fields
   pub checks : checking exit ≡ counted 1
-  pub compares : answerOf (comparing exit 0 m) ≡ same
+  pub compares : compareAnswer (comparing exit 0 m) ≡ same
   pub finds : finding exit (nameOf fields) ≡ found 0 1
 
 abbrev pub MadeIsGood : Type 0
@@ -120,12 +120,12 @@ MadeIsGood = (m entry exit : List ℕ) (a : Making) → Makes m entry a exit →
 -- ---- 25 never carries reading number 1: 23 comes first
 
 abbrev pub NeverTooShort : Type 0
-NeverTooShort = (f : List ℕ) (n : ℕ) → n < countOf f → judgedAt f n ≡ bad (passingOn 25 1) → ⊥
+NeverTooShort = (f : List ℕ) (n : ℕ) (r : Refusal) → n < countOf f → judgedAt f n ≡ bad (passingOn 25 r) → r .number ≡ 1 → ⊥
 
 -- ---- 32 never comes about: of two accepted messages neither is a proper beginning of the other
 
 abbrev pub NeverABeginning : Type 0
-NeverABeginning = (g r : List ℕ) (fg fr : Fields) → reading g ≡ accepted fg → reading r ≡ accepted fr → properBeginning g r ≡ false
+NeverABeginning = (g r : List ℕ) (fg fr : Fields) → reading g ≡ accepted fg → reading r ≡ accepted fr → isProperBeginning g r ≡ false
 
 -- ---- how large an answer can be: no more records than a file may hold, no more places than the longest message has
 
@@ -162,7 +162,7 @@ reachedSize (step.refused r) = 0
 reachedSize end = 0
 
 abbrev pub StepReachesShort : Type 0
-StepReachesShort = (f : List ℕ) (n : ℕ) → reachedSize (stepAt f n) ≤ longestMessage
+StepReachesShort = (f : List ℕ) (n : ℕ) → reachedSize (stepAt f n) ≤ messageRoom
 
 abbrev pub StepGoesOnByOne : Type 0
 StepGoesOnByOne = (f : List ℕ) (n : ℕ) → (n ≤ nextAfter f n) × (nextAfter f n ≤ n + 1)
@@ -170,21 +170,21 @@ StepGoesOnByOne = (f : List ℕ) (n : ℕ) → (n ≤ nextAfter f n) × (nextAft
 abbrev pub differenceTotal : CompareAnswer → ℕ
 differenceTotal same = 0
 differenceTotal (different n) = n
-differenceTotal (unlike r) = 0
+differenceTotal (refused r) = 0
 
 abbrev pub CompareTotalsFew : Type 0
-CompareTotalsFew = (f : List ℕ) (n : ℕ) (radio : List ℕ) → Bytes radio → differenceTotal (answerOf (comparing f n radio)) ≤ largestMessage
+CompareTotalsFew = (f : List ℕ) (n : ℕ) (radio : List ℕ) → Bytes radio → differenceTotal (compareAnswer (comparing f n radio)) ≤ largestMessage
 
 -- ---- a refusal leaves what was lent as it was
 
 abbrev pub RefusedComparisonKeepsList : Type 0
 RefusedComparisonKeepsList =
     (f : List ℕ) (n : ℕ) (radio entry exit : List ℕ) (a : Comparison) (r : Refused)
-    → Compares f n radio entry a exit → toldComparison a ≡ unlike r → exit ≡ entry
+    → Compares f n radio entry a exit → toldComparison a ≡ refused r → exit ≡ entry
 
 abbrev pub RefusedMakingKeepsBuffer : Type 0
 RefusedMakingKeepsBuffer =
-    (m entry exit : List ℕ) (a : Making) (r : Refused) → Makes m entry a exit → toldMaking a ≡ declined r → exit ≡ entry
+    (m entry exit : List ℕ) (a : Making) (r : Refused) → Makes m entry a exit → toldMaking a ≡ refused r → exit ≡ entry
 
 -- ---- demand 3 for golden files: a change inside four neighbouring bytes of one record's message, before its integrity field or being it
 
@@ -228,7 +228,7 @@ GoldenThreeBitsAnywhere = GoldenBitsAnywhere 3
 abbrev pub GoldenWindowsBut : (ℕ → ℕ → Type 0) → Type 0
 GoldenWindowsBut LeftOut =
     (f g : List ℕ) (n m r k : ℕ) → Bytes f → Bytes g → checking f ≡ counted n → checking g ≡ counted m → r < n
-    → DeclaresCrc (messageOf (recordAt f r)) → DeclaresCrc (messageOf (recordAt g r)) → k + 4 ≤ longestMessage
+    → DeclaresCrc (messageOf (recordAt f r)) → DeclaresCrc (messageOf (recordAt g r)) → k + 4 ≤ messageRoom
     → (LeftOut k (length (messageOf (recordAt f r))) → ⊥)
     → length f ≡ length g → SameOutside (r * recordSize + headSize + k) f g → f ≡ g
 

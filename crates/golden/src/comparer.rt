@@ -3,35 +3,29 @@ ghost use mathlib.Core.Path.{_≡_};
 ghost use mathlib.Core.Bool.{cond};
 ghost use Prim.Native.Nat.{_+_, _≤_, _<_, _^_};
 ghost use lib.ListN.{length, set};
-ghost use Rattle.golden.specs.Comparing.{differsAt, longer, differing, begins, properBeginning, comparingMessages, listAfter, answerOf, toldComparison, Compares};
+ghost use Rattle.golden.specs.Comparing.{differsAt, longer, differing, isBeginning, isProperBeginning, comparingMessages, afterComparing, compareAnswer, toldComparison, Compares};
 ghost use Rattle.golden.specs.Positions.{noted};
 use crate::positions::note;
-use crate::record::RecordFault;
+use crate::refusal::Refusal;
 use crate::stepper::Reached;
 use crate::stepper::answer_at;
 use envelope::Reading;
-use envelope::Refusal;
 use envelope::read;
 
 pub enum Comparison {
     Same,
     Different(usize),
-    NotAFile,
-    NoRecord,
-    Bad(RecordFault),
-    RadioUnread(Refusal),
-    Beginning,
+    Refused(Refusal),
 }
 
 pub fn compare(file: &[u8], n: usize, radio: &[u8], list: &mut [u32]) -> Comparison
     ensures { λ r. ⌜ Compares (now (file .entry)) n (now (radio .entry)) (now (list .entry)) r (now (list .exit)) ⌝ }
 {
     match answer_at(file, n) {
-        Reached::NotAFile => Comparison::NotAFile,
-        Reached::End => Comparison::NoRecord,
-        Reached::Bad(fault) => Comparison::Bad(fault),
+        Reached::Refused(refusal) => Comparison::Refused(refusal),
+        Reached::End => Comparison::Refused(Refusal::NoRecord),
         Reached::Message(part) => match read(radio) {
-            Reading::Refused(refusal) => Comparison::RadioUnread(refusal),
+            Reading::Refused(refusal) => Comparison::Refused(Refusal::RadioRefused(refusal)),
             Reading::Accepted(_) => compare_messages(part.slice(file), radio, list),
         },
     }
@@ -40,11 +34,11 @@ pub fn compare(file: &[u8], n: usize, radio: &[u8], list: &mut [u32]) -> Compari
 // Two accepted messages.
 fn compare_messages(golden: &[u8], radio: &[u8], list: &mut [u32]) -> Comparison
     requires { ⌜ (length (now golden) < 2 ^ 32) × (length (now radio) < 2 ^ 32) ⌝ }
-    ensures { λ r. ⌜ (toldComparison r ≡ answerOf (comparingMessages (now (golden .entry)) (now (radio .entry))))
-        × (now (list .exit) ≡ listAfter (comparingMessages (now (golden .entry)) (now (radio .entry))) (now (list .entry))) ⌝ }
+    ensures { λ r. ⌜ (toldComparison r ≡ compareAnswer (comparingMessages (now (golden .entry)) (now (radio .entry))))
+        × (now (list .exit) ≡ afterComparing (comparingMessages (now (golden .entry)) (now (radio .entry))) (now (list .entry))) ⌝ }
 {
     if is_proper_beginning(golden, radio) {
-        return Comparison::Beginning;
+        return Comparison::Refused(Refusal::Beginning);
     }
     let total = list_positions(golden, radio, list);
     if total == 0 {
@@ -105,7 +99,7 @@ fn longer_length(golden: &[u8], radio: &[u8]) -> usize
 
 // Whether one of the two is a proper beginning of the other.
 fn is_proper_beginning(golden: &[u8], radio: &[u8]) -> bool
-    ensures { λ r. ⌜ r ≡ properBeginning (now (golden .entry)) (now (radio .entry)) ⌝ }
+    ensures { λ r. ⌜ r ≡ isProperBeginning (now (golden .entry)) (now (radio .entry)) ⌝ }
 {
     if golden.len() < radio.len() {
         return is_beginning(golden, radio);
@@ -117,7 +111,7 @@ fn is_proper_beginning(golden: &[u8], radio: &[u8]) -> bool
 }
 
 fn is_beginning(start: &[u8], whole: &[u8]) -> bool
-    ensures { λ r. ⌜ r ≡ begins (now (start .entry)) (now (whole .entry)) ⌝ }
+    ensures { λ r. ⌜ r ≡ isBeginning (now (start .entry)) (now (whole .entry)) ⌝ }
 {
     let mut i = 0;
     while i < start.len() {

@@ -8,13 +8,13 @@ use crate::record::Record;
 use crate::record::open;
 
 // Refusal 21.
-pub(crate) fn refused(file: &[u8]) -> bool
+pub(crate) fn bad_file(file: &[u8]) -> bool
     ensures { λ r. ⌜ r ≡ badFile (now (file .entry)) ⌝ }
 {
     if file.len() % Record::SIZE != 0 {
         return true;
     }
-    Record::FILE < file.len()
+    Record::LARGEST_FILE < file.len()
 }
 
 pub(crate) fn count_of(file: &[u8]) -> usize

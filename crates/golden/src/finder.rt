@@ -1,14 +1,16 @@
 // Find: the first record of a name, before any bad record, with the number of records opened.
 ghost use mathlib.Core.Path.{_≡_};
+ghost use Prim.Native.Nat.{_≤_};
 ghost use Rattle.envelope.specs.Told.{toldEnvelope};
-ghost use Rattle.golden.specs.Finding.{hasName, toldName, Finds};
+ghost use Rattle.golden.specs.File.{countOf};
+ghost use Rattle.golden.specs.Finding.{hasName, findFrom, toldName, toldFinding, Finds};
 ghost use Rattle.golden.specs.Helpers.{toldOpening, seenAs, toldSeen};
+use crate::file::bad_file;
 use crate::file::count_of;
 use crate::file::open_at;
-use crate::file::refused;
 use crate::record::GoodRecord;
 use crate::record::Opening;
-use crate::record::RecordFault;
+use crate::refusal::Refusal;
 
 // What find seeks.
 pub struct Name {
@@ -18,14 +20,12 @@ pub struct Name {
 
 pub enum Finding {
     Found { record: usize, opened: usize },
-    Missing { opened: usize },
-    NotAFile,
-    Bad { fault: RecordFault, opened: usize },
+    Refused { refusal: Refusal, opened: usize },
 }
 
 // What an opened record is to find: it ends the search, or the search goes on.
 enum Seen {
-    Bad(RecordFault),
+    Bad(Refusal),
     Sought,
     Other,
 }
@@ -33,16 +33,26 @@ enum Seen {
 pub fn find(file: &[u8], name: Name) -> Finding
     ensures { λ r. ⌜ Finds (now (file .entry)) name r ⌝ }
 {
-    if refused(file) {
-        return Finding::NotAFile;
+    if bad_file(file) {
+        return Finding::Refused {
+            refusal: Refusal::NotAFile,
+            opened: 0,
+        };
     }
-    let count = count_of(file);
+    find_before(file, name, count_of(file))
+}
+
+// Among the records before `end`.
+pub(crate) fn find_before(file: &[u8], name: Name, end: usize) -> Finding
+    requires { ⌜ end ≤ countOf (now file) ⌝ }
+    ensures { λ r. ⌜ toldFinding r ≡ findFrom (now (file .entry)) (toldName name) 0 end ⌝ }
+{
     let mut n = 0;
-    while n < count {
+    while n < end {
         match weigh(open_at(file, n), name) {
-            Seen::Bad(fault) => {
-                return Finding::Bad {
-                    fault,
+            Seen::Bad(refusal) => {
+                return Finding::Refused {
+                    refusal,
                     opened: n + 1,
                 };
             }
@@ -56,14 +66,17 @@ pub fn find(file: &[u8], name: Name) -> Finding
         }
         n += 1;
     }
-    Finding::Missing { opened: n }
+    Finding::Refused {
+        refusal: Refusal::NotFound,
+        opened: n,
+    }
 }
 
 fn weigh(opening: Opening, name: Name) -> Seen
     ensures { λ r. ⌜ toldSeen r ≡ seenAs (toldName name) (toldOpening opening) ⌝ }
 {
     match opening {
-        Opening::Bad(fault) => Seen::Bad(fault),
+        Opening::Bad(refusal) => Seen::Bad(refusal),
         Opening::Good(good) => {
             if has_name(name, good) {
                 return Seen::Sought;

@@ -8,6 +8,7 @@ pub mod lister;
 pub mod maker;
 mod positions;
 pub mod record;
+pub mod refusal;
 pub mod stepper;
 pub mod walker;
 
@@ -25,7 +26,7 @@ pub use crate::lister::entry_at;
 pub use crate::maker::Making;
 pub use crate::maker::make;
 pub use crate::record::Record;
-pub use crate::record::RecordFault;
+pub use crate::refusal::Refusal;
 pub use crate::stepper::Reached;
 pub use crate::stepper::Stepping;
 pub use crate::stepper::step;

@@ -1,14 +1,14 @@
 // What a listing needs: the count of a file, and a line for each record.
 ghost use Rattle.golden.specs.Listing.{Counts, Enters};
+use crate::file::bad_file;
 use crate::file::count_of;
 use crate::file::open_at;
-use crate::file::refused;
 use crate::record::Opening;
-use crate::record::RecordFault;
+use crate::refusal::Refusal;
 
 pub enum Counting {
     Count(usize),
-    NotAFile,
+    Refused(Refusal),
 }
 
 pub enum Entry {
@@ -17,16 +17,14 @@ pub enum Entry {
         number: u32,
         size: usize,
     },
-    Bad(RecordFault),
-    NoRecord,
-    NotAFile,
+    Refused(Refusal),
 }
 
 pub fn count(file: &[u8]) -> Counting
     ensures { λ r. ⌜ Counts (now (file .entry)) r ⌝ }
 {
-    if refused(file) {
-        return Counting::NotAFile;
+    if bad_file(file) {
+        return Counting::Refused(Refusal::NotAFile);
     }
     Counting::Count(count_of(file))
 }
@@ -34,11 +32,11 @@ pub fn count(file: &[u8]) -> Counting
 pub fn entry_at(file: &[u8], n: usize) -> Entry
     ensures { λ r. ⌜ Enters (now (file .entry)) n r ⌝ }
 {
-    if refused(file) {
-        return Entry::NotAFile;
+    if bad_file(file) {
+        return Entry::Refused(Refusal::NotAFile);
     }
     if count_of(file) <= n {
-        return Entry::NoRecord;
+        return Entry::Refused(Refusal::NoRecord);
     }
     match open_at(file, n) {
         Opening::Good(good) => Entry::Good {
@@ -46,6 +44,6 @@ pub fn entry_at(file: &[u8], n: usize) -> Entry
             number: good.envelope.header.number,
             size: good.size,
         },
-        Opening::Bad(fault) => Entry::Bad(fault),
+        Opening::Bad(refusal) => Entry::Refused(refusal),
     }
 }

@@ -4,29 +4,15 @@ ghost use Prim.Native.Nat.{_≤_};
 ghost use lib.ListN.{length};
 ghost use Rattle.golden.specs.Helpers.{toldOpening, opening};
 ghost use Rattle.golden.specs.Making.{recordOf};
-ghost use Rattle.golden.specs.Refusal.{NumbersRecordFault};
-ghost use Rattle.golden.specs.Record.{recordSize, longestMessage, storedLength, allZero, badLength};
+ghost use Rattle.golden.specs.Record.{recordSize, messageRoom, storedLength, allZero, badLength};
+use crate::refusal::Refusal;
 use envelope::Envelope;
 use envelope::Reading;
-use envelope::Refusal;
 use envelope::numbers::two_bytes;
 use envelope::read;
 
 pub struct Record {
     pub bytes: [u8; Record::SIZE],
-}
-
-// Why a record is bad, in the order of the refusals.
-pub enum RecordFault {
-    BadLength,
-    NotClear,
-    Unread(Refusal),
-}
-
-// A refusal as the paper numbers it: its own number, and that of reading, or 0.
-pub struct Numbers {
-    pub number: u8,
-    pub reading: u8,
 }
 
 // What a good record holds.
@@ -37,56 +23,31 @@ pub struct GoodRecord {
 
 pub(crate) enum Opening {
     Good(GoodRecord),
-    Bad(RecordFault),
+    Bad(Refusal),
 }
 
 impl Record {
     pub const SIZE: usize = 512;
     // The stored length's own bytes.
-    pub const HEAD: usize = 2;
+    pub const HEAD_SIZE: usize = 2;
     // The longest message that fits.
-    pub const MESSAGE: usize = Record::SIZE - Record::HEAD;
+    pub const MESSAGE_ROOM: usize = Record::SIZE - Record::HEAD_SIZE;
     // The most records that a file may have, and so its largest size.
-    pub const MOST: usize = 128;
+    pub const MOST_RECORDS: usize = 128;
 
-    pub const FILE: usize = Record::SIZE * Record::MOST;
+    pub const LARGEST_FILE: usize = Record::SIZE * Record::MOST_RECORDS;
 
     // A fresh record is zero bytes until length and message go in.
     pub(crate) fn of(message: &[u8]) -> Record
-        requires { ⌜ length (now message) ≤ longestMessage ⌝ }
+        requires { ⌜ length (now message) ≤ messageRoom ⌝ }
         ensures { λ r. ⌜ r .bytes ≡ recordOf (now (message .entry)) ⌝ }
     {
         let mut fresh = [0u8; Record::SIZE];
         let size = message.len();
         fresh[0] = (size / 256) as u8;
         fresh[1] = (size % 256) as u8;
-        bytes::copy(message, &mut fresh[Record::HEAD..]);
+        bytes::copy(message, &mut fresh[Record::HEAD_SIZE..]);
         Record { bytes: fresh }
-    }
-}
-
-impl RecordFault {
-    // The numbers of the table of refusals.
-    pub fn numbers(self) -> Numbers
-        ensures { λ r. ⌜ NumbersRecordFault self r ⌝ }
-    {
-        match self {
-            RecordFault::BadLength => Numbers {
-                number: 23,
-                reading: 0,
-            },
-            RecordFault::NotClear => Numbers {
-                number: 24,
-                reading: 0,
-            },
-            RecordFault::Unread(refusal) => {
-                let fault = refusal.fault;
-                Numbers {
-                    number: 25,
-                    reading: fault.number(),
-                }
-            }
-        }
     }
 }
 
@@ -96,16 +57,16 @@ pub(crate) fn open(bytes: &[u8]) -> Opening
     ensures { λ r. ⌜ toldOpening r ≡ opening (now (bytes .entry)) ⌝ }
 {
     let size = stored_length(bytes);
-    if length_refused(size) {
-        return Opening::Bad(RecordFault::BadLength);
+    if bad_length(size) {
+        return Opening::Bad(Refusal::BadLength);
     }
-    let end = Record::HEAD + size;
+    let end = Record::HEAD_SIZE + size;
     if !all_zero(&bytes[end..]) {
-        return Opening::Bad(RecordFault::NotClear);
+        return Opening::Bad(Refusal::NotClear);
     }
-    match read(&bytes[Record::HEAD..end]) {
+    match read(&bytes[Record::HEAD_SIZE..end]) {
         Reading::Accepted(envelope) => Opening::Good(GoodRecord { size, envelope }),
-        Reading::Refused(refusal) => Opening::Bad(RecordFault::Unread(refusal)),
+        Reading::Refused(refusal) => Opening::Bad(Refusal::RecordRefused(refusal)),
     }
 }
 
@@ -116,13 +77,13 @@ fn stored_length(bytes: &[u8]) -> usize
     two_bytes(bytes[0], bytes[1]) as usize
 }
 
-fn length_refused(size: usize) -> bool
+fn bad_length(size: usize) -> bool
     ensures { λ r. ⌜ r ≡ badLength size ⌝ }
 {
-    if size < Envelope::LEAST {
+    if size < Envelope::LEAST_SIZE {
         return true;
     }
-    Record::MESSAGE < size
+    Record::MESSAGE_ROOM < size
 }
 
 fn all_zero(bytes: &[u8]) -> bool

@@ -1,18 +1,17 @@
 // The walk's step, from a file and a number.
 ghost use mathlib.Core.Path.{_≡_};
 ghost use Rattle.golden.specs.Stepping.{stepAt, nextAfter, toldReached, Steps};
+use crate::file::bad_file;
 use crate::file::count_of;
 use crate::file::open_at;
-use crate::file::refused;
 use crate::record::Opening;
 use crate::record::Record;
-use crate::record::RecordFault;
+use crate::refusal::Refusal;
 use envelope::Part;
 
 pub enum Reached {
     Message(Part),
-    Bad(RecordFault),
-    NotAFile,
+    Refused(Refusal),
     End,
 }
 
@@ -33,18 +32,18 @@ pub fn step(file: &[u8], n: usize) -> Stepping
 pub(crate) fn answer_at(file: &[u8], n: usize) -> Reached
     ensures { λ r. ⌜ toldReached r ≡ stepAt (now (file .entry)) n ⌝ }
 {
-    if refused(file) {
-        return Reached::NotAFile;
+    if bad_file(file) {
+        return Reached::Refused(Refusal::NotAFile);
     }
     if count_of(file) <= n {
         return Reached::End;
     }
     match open_at(file, n) {
         Opening::Good(good) => Reached::Message(Part {
-            place: n * Record::SIZE + Record::HEAD,
+            place: n * Record::SIZE + Record::HEAD_SIZE,
             size: good.size,
         }),
-        Opening::Bad(fault) => Reached::Bad(fault),
+        Opening::Bad(refusal) => Reached::Refused(refusal),
     }
 }
 
@@ -52,7 +51,7 @@ pub(crate) fn answer_at(file: &[u8], n: usize) -> Reached
 pub(crate) fn next_after(file: &[u8], n: usize) -> usize
     ensures { λ r. ⌜ r ≡ nextAfter (now (file .entry)) n ⌝ }
 {
-    if refused(file) {
+    if bad_file(file) {
         return n;
     }
     if count_of(file) <= n {

@@ -9,7 +9,7 @@ use Rattle.envelope.specs.Addresses.{badAddresses}
 use Rattle.envelope.specs.Flags.{kindOf, badFlags}
 use Rattle.envelope.specs.Heading.{flagsOf, variableSize, fieldPlace, announced, wrongVersion, badVariableSize}
 use Rattle.envelope.specs.IntegrityField.{badIntegrity}
-use Rattle.envelope.specs.Layout.{versionPlace, flagsPlace, headerSize, largestVariable}
+use Rattle.envelope.specs.Layout.{versionPlace, flagsPlace, headerSize, smallestVariable, largestVariable}
 use Rattle.envelope.specs.Reading.{tooShort, wrongLength}
 
 -- what became of a rule
@@ -52,7 +52,7 @@ lengthRule s = judgedIf (reaches s headerSize) (wrongLength s)
 -- 6: bytes 21 to 16 + V, for V from 6 to 132
 unfoldable pub addressesRule : List ℕ → RuleAnswer
 addressesRule s =
-    judgedIf (leb 6 (variableSize s) && (leb (variableSize s) largestVariable && reaches s (headerSize + variableSize s)))
+    judgedIf (leb smallestVariable (variableSize s) && (leb (variableSize s) largestVariable && reaches s (headerSize + variableSize s)))
     (badAddresses s (variableSize s))
 
 -- 7: the four bytes from place 17 + V + D, and all before them

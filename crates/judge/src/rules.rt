@@ -17,9 +17,6 @@ use envelope::Envelope;
 use envelope::numbers::four_bytes;
 use envelope::numbers::three_bytes;
 
-// The smallest variable header: TTL, QoS and two closing zeros.
-const LEAST_VARIABLE: usize = 6;
-
 const KIND_NONE: u8 = 0;
 
 const KIND_CRC: u8 = 1;
@@ -30,7 +27,7 @@ const KIND_UNASSIGNED: u8 = 3;
 pub(crate) fn least(bytes: &[u8]) -> Verdict
     ensures { λ r. ⌜ toldVerdict r ≡ leastRule (now (bytes .entry)) ⌝ }
 {
-    verdict(bytes.len() < Envelope::LEAST)
+    verdict(bytes.len() < Envelope::LEAST_SIZE)
 }
 
 // 2: header version is not 4.
@@ -40,7 +37,7 @@ pub(crate) fn version(bytes: &[u8]) -> Verdict
     if bytes.len() <= Envelope::VERSION_PLACE {
         return Verdict::NotJudged;
     }
-    verdict(bytes[Envelope::VERSION_PLACE] != Envelope::VERSION)
+    verdict(bytes[Envelope::VERSION_PLACE] != Envelope::HEADER_VERSION)
 }
 
 // 3: an unassigned flag bit is set, or integrity kind 3.
@@ -57,7 +54,7 @@ pub(crate) fn flags(bytes: &[u8]) -> Verdict
 pub(crate) fn variable_size(bytes: &[u8]) -> Verdict
     ensures { λ r. ⌜ toldVerdict r ≡ variableSizeRule (now (bytes .entry)) ⌝ }
 {
-    if bytes.len() < Envelope::HEADER {
+    if bytes.len() < Envelope::HEADER_SIZE {
         return Verdict::NotJudged;
     }
     verdict(bad_variable_size(size_in(bytes)))
@@ -67,31 +64,31 @@ pub(crate) fn variable_size(bytes: &[u8]) -> Verdict
 pub(crate) fn length(bytes: &[u8]) -> Verdict
     ensures { λ r. ⌜ toldVerdict r ≡ lengthRule (now (bytes .entry)) ⌝ }
 {
-    if bytes.len() < Envelope::HEADER {
+    if bytes.len() < Envelope::HEADER_SIZE {
         return Verdict::NotJudged;
     }
-    verdict(place_in(bytes) + Envelope::FIELD != bytes.len())
+    verdict(place_in(bytes) + Envelope::FIELD_SIZE != bytes.len())
 }
 
 // 6: V is not 0 and the addresses break their rule. Judged for V from 6 to 132 alone, on bytes 21 to 16 + V.
 pub(crate) fn addresses(bytes: &[u8]) -> Verdict
     ensures { λ r. ⌜ toldVerdict r ≡ addressesRule (now (bytes .entry)) ⌝ }
 {
-    if bytes.len() < Envelope::HEADER {
+    if bytes.len() < Envelope::HEADER_SIZE {
         return Verdict::NotJudged;
     }
     let v = size_in(bytes);
-    if v < LEAST_VARIABLE {
+    if v < Envelope::SMALLEST_VARIABLE {
         return Verdict::NotJudged;
     }
-    if Envelope::VARIABLE < v {
+    if Envelope::LARGEST_VARIABLE < v {
         return Verdict::NotJudged;
     }
-    let end = Envelope::HEADER + v;
+    let end = Envelope::HEADER_SIZE + v;
     if bytes.len() < end {
         return Verdict::NotJudged;
     }
-    verdict(bad_region(&bytes[Envelope::ADDRESSES..end]))
+    verdict(bad_region(&bytes[Envelope::ADDRESSES_PLACE..end]))
 }
 
 // 7: kind none with a non-zero integrity field, or kind CRC with a field that is not the CRC.
@@ -99,11 +96,11 @@ pub(crate) fn addresses(bytes: &[u8]) -> Verdict
 pub(crate) fn integrity(bytes: &[u8]) -> Verdict
     ensures { λ r. ⌜ toldVerdict r ≡ integrityRule (now (bytes .entry)) ⌝ }
 {
-    if bytes.len() < Envelope::HEADER {
+    if bytes.len() < Envelope::HEADER_SIZE {
         return Verdict::NotJudged;
     }
     let place = place_in(bytes);
-    if bytes.len() < place + Envelope::FIELD {
+    if bytes.len() < place + Envelope::FIELD_SIZE {
         return Verdict::NotJudged;
     }
     verdict(bad_integrity(bytes, kind_in(bytes[Envelope::FLAGS_PLACE]), place))
@@ -134,10 +131,10 @@ fn bad_variable_size(v: usize) -> bool
     if v == 0 {
         return false;
     }
-    if v < LEAST_VARIABLE {
+    if v < Envelope::SMALLEST_VARIABLE {
         return true;
     }
-    Envelope::VARIABLE < v
+    Envelope::LARGEST_VARIABLE < v
 }
 
 // The region is not two addresses, each at most 64 bytes with its closing zero.
@@ -145,14 +142,14 @@ fn bad_region(region: &[u8]) -> bool
     ensures { λ r. ⌜ r ≡ not (twoAddresses (now (region .entry))) ⌝ }
 {
     let source = first_zero(region);
-    if Envelope::ADDRESS <= source {
+    if Envelope::LARGEST_ADDRESS <= source {
         return true;
     }
     if region.len() <= source {
         return true;
     }
     let destination = first_zero(&region[source + 1..]);
-    if Envelope::ADDRESS <= destination {
+    if Envelope::LARGEST_ADDRESS <= destination {
         return true;
     }
     if source + 1 + (destination + 1) != region.len() {
@@ -205,7 +202,7 @@ fn place_in(bytes: &[u8]) -> usize
         bytes[Envelope::DATA_LENGTH_PLACE + 1],
         bytes[Envelope::DATA_LENGTH_PLACE + 2],
     );
-    Envelope::HEADER + size_in(bytes) + (d as usize)
+    Envelope::HEADER_SIZE + size_in(bytes) + (d as usize)
 }
 
 // How many bytes stand before the first zero.

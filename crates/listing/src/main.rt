@@ -9,7 +9,7 @@ use libc::STDIN_FILENO;
 use libc::STDOUT_FILENO;
 
 // A byte more than the largest file, so that a longer input is refused and not cut short.
-const ROOM: usize = Record::FILE + 1;
+const ROOM: usize = Record::LARGEST_FILE + 1;
 
 fn main() {
     let mut buffer = [0u8; ROOM];

@@ -3,7 +3,7 @@ use mathlib.Core.Path.{ap, sym, _∙_}
 use native.Mathlib.Omega.{arith}
 use borrow.Author.Needs.{needs}
 use borrow.Author.Tests.{eq-eqb, ne-eqb}
-use Rattle.envelope.proofs.AddressLaws.{ends-broken, ends-found, Found}
+use Rattle.envelope.proofs.AddressLaws.{ends-refused, ends-found, Found}
 use Rattle.envelope.specs.Addresses.{badAddresses}
 use Rattle.envelope.specs.Helpers.{toldEnds}
 use Rattle.envelope.specs.Reading.{addressingOf}
@@ -59,7 +59,7 @@ add-t18 c = let k = at-ends (c .before .before) in omega (arith, k .small)
 returns-2 : tie.Need-returns-2
 returns-2 c =
     let start = c .before .before .before .before .before .before in
-    rw (ends-broken (start .args .bytes .now) (start .args .v) (start .pre .1 (c .before .before .before .before .if1 .left)) (ap toldEnds (sym (c .enum-told .given .1)) ∙ c .before .before .ends-of .ensures))
+    rw (ends-refused (start .args .bytes .now) (start .args .v) (start .pre .1 (c .before .before .before .before .if1 .left)) (ap toldEnds (sym (c .enum-told .given .1)) ∙ c .before .before .ends-of .ensures))
 
 returns-3 : tie.Need-returns-3
 unfolding addressingOf

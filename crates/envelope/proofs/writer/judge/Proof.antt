@@ -19,17 +19,17 @@ asked c =
     given (a .header) (a .routing) (a .source .now) (a .destination .now) (a .body .now) (a .application)
 
 flags-kept : (c : tie.Else1) → badFlags (asked c .header .flags) ≡ false
-flags-kept c = sym (c .before .refused .ensures) ∙ c .if1 .left
+flags-kept c = sym (c .before .bad-flags .ensures) ∙ c .if1 .left
 
 ends-kept : (c : tie.Else2) → let g = asked (c .before .before) in badEnds (g .routing) (g .source) (g .destination) ≡ false
-ends-kept c = sym (c .before .ends-refused .ensures) ∙ c .if2 .left
+ends-kept c = sym (c .before .bad-ends .ensures) ∙ c .if2 .left
 
-integrity-is : (c : tie.After-integrity-refused) →
+integrity-is : (c : tie.After-stray-integrity) →
     let g = asked (c .before .before .before .before .before) in
-    c .integrity-refused .result ≡ strayIntegrity (g .application) (kindOf (g .header .flags))
+    c .stray-integrity .result ≡ strayIntegrity (g .application) (kindOf (g .header .flags))
 integrity-is c =
     let g = asked (c .before .before .before .before .before) in
-    c .integrity-refused .ensures ∙ ap (strayIntegrity (g .application)) (c .before .kind .ensures)
+    c .stray-integrity .ensures ∙ ap (strayIntegrity (g .application)) (c .before .kind .ensures)
 
 four-kept : (c : tie.Else4) → FourKept (asked (c .before .before .before .before .before .before))
 four-kept c =
@@ -41,19 +41,19 @@ four-kept c =
       integrity = sym (integrity-is (c .before)) ∙ c .if4 .left;
     }
 
-refused-requires : tie.Need-refused-requires
-refused-requires c κs = search needs
+bad-flags-requires : tie.Need-bad-flags-requires
+bad-flags-requires c κs = search needs
 
 returns : tie.Need-returns
 unfolding writing
-returns c = rw (sym (c .before .refused .ensures) ∙ c .if1 .taken)
+returns c = rw (sym (c .before .bad-flags .ensures) ∙ c .if1 .taken)
 
-ends-refused-requires : tie.Need-ends-refused-requires
-ends-refused-requires c κs = search needs
+bad-ends-requires : tie.Need-bad-ends-requires
+bad-ends-requires c κs = search needs
 
 returns-2 : tie.Need-returns-2
 unfolding writing
-returns-2 c = rw (flags-kept (c .before .before), sym (c .before .ends-refused .ensures) ∙ c .if2 .taken)
+returns-2 c = rw (flags-kept (c .before .before), sym (c .before .bad-ends .ensures) ∙ c .if2 .taken)
 
 returns-3 : tie.Need-returns-3
 unfolding writing
@@ -62,8 +62,8 @@ returns-3 c = rw (flags-kept (c .before .before .before), ends-kept (c .before),
 kind-requires : tie.Need-kind-requires
 kind-requires c κs = search needs
 
-integrity-refused-requires : tie.Need-integrity-refused-requires
-integrity-refused-requires c κs = search needs
+stray-integrity-requires : tie.Need-stray-integrity-requires
+stray-integrity-requires c κs = search needs
 
 returns-4 : tie.Need-returns-4
 unfolding writing
@@ -107,13 +107,13 @@ pub judge-spec : {M : Type 1} → statement M
 judge-spec =
     tie.close
     (tie.spec
-    refused-requires
+    bad-flags-requires
     returns
-    ends-refused-requires
+    bad-ends-requires
     returns-2
     returns-3
     kind-requires
-    integrity-refused-requires
+    stray-integrity-requires
     returns-4
     variable-length-requires
     add-size

@@ -15,11 +15,11 @@ Inv-loop file count n₀ n = (n ≤ count) × (checkFrom file 0 count ≡ checkF
 abbrev μ-loop : tie.MeasureT-loop
 μ-loop file count n₀ n = count - n
 
-refused-requires : tie.Need-refused-requires Inv-loop μ-loop
-refused-requires c κs = search needs
+bad-file-requires : tie.Need-bad-file-requires Inv-loop μ-loop
+bad-file-requires c κs = search needs
 
 returns : tie.Need-returns Inv-loop μ-loop
-returns c = check-21 _ (sym (c .before .refused .ensures) ∙ c .if1 .taken)
+returns c = check-21 _ (sym (c .before .bad-file .ensures) ∙ c .if1 .taken)
 
 count-of-requires : tie.Need-count-of-requires Inv-loop μ-loop
 count-of-requires c κs = search needs
@@ -30,15 +30,15 @@ loop-holds c = (omega arith, check-start _ _)
 open-at-requires : tie.Need-open-at-requires Inv-loop μ-loop
 open-at-requires c κs = omega arith
 
-enum-known-fault : tie.Need-enum-known-fault Inv-loop μ-loop
-enum-known-fault c = search needs
+enum-known-refusal : tie.Need-enum-known-refusal Inv-loop μ-loop
+enum-known-refusal c = search needs
 
 returns-2 : tie.Need-returns-2 Inv-loop μ-loop
 returns-2 c =
     let count = c .before .before .before .before .before .before in
-    check-all _ (sym (count .before .before .refused .ensures) ∙ count .before .if1 .left) _
+    check-all _ (sym (count .before .before .bad-file .ensures) ∙ count .before .if1 .left) _
     (rw (← count .count-of .ensures)
-    (c .before .before .before .before .before .loop .inv .1 ∙ check-on _ _ _ (c .before .before .before .before .loop-test .taken) _ (judged-bad _ _ _ (ap toldOpening (sym (c .before .fault .given .1)) ∙ c .before .before .before .open-at .ensures))))
+    (c .before .before .before .before .before .loop .inv .1 ∙ check-on _ _ _ (c .before .before .before .before .loop-test .taken) _ (judged-bad _ _ _ (ap toldOpening (sym (c .before .refusal .given .1)) ∙ c .before .before .before .open-at .ensures))))
 
 enum-told : tie.Need-enum-told Inv-loop μ-loop
 enum-told c = search needs
@@ -58,7 +58,7 @@ loop-again c = (
 returns-3 : tie.Need-returns-3 Inv-loop μ-loop
 returns-3 c =
     let count = c .before .before in
-    check-all _ (sym (count .before .before .refused .ensures) ∙ count .before .if1 .left) _
+    check-all _ (sym (count .before .before .bad-file .ensures) ∙ count .before .if1 .left) _
     (rw (← count .count-of .ensures) (c .before .loop .inv .1 ∙ check-end _ _ _ (c .loop-test .left)))
 
 pub check-spec : {M : Type 1} → statement M
@@ -67,12 +67,12 @@ check-spec =
     (tie.spec
     Inv-loop
     μ-loop
-    refused-requires
+    bad-file-requires
     returns
     count-of-requires
     loop-holds
     open-at-requires
-    enum-known-fault
+    enum-known-refusal
     returns-2
     enum-told
     add-n

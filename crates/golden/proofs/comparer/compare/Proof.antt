@@ -7,7 +7,7 @@ use lib.ListN.{length-take}
 use Rattle.envelope.proofs.ReadingLaws.{accepted-most}
 use Rattle.envelope.specs.Fields.{Span, partOf}
 use Rattle.envelope.specs.Told.{told, toldPart}
-use Rattle.golden.proofs.ComparingLaws.{Answered, by-refused, by-end, by-message, declines, compares-same}
+use Rattle.golden.proofs.ComparingLaws.{Answered, by-refused, by-end, by-message, refuses, compares-same}
 use Rattle.golden.proofs.SteppingLaws.{good-size, part-is-message}
 use Rattle.golden.specs.Comparing.{withRadio}
 use Rattle.golden.specs.File.{recordAt}
@@ -35,14 +35,11 @@ message-is c =
 answer-at-requires : tie.Need-answer-at-requires
 answer-at-requires c κs = search needs
 
+enum-known-refusal : tie.Need-enum-known-refusal
+enum-known-refusal c = search needs
+
 enum-told : tie.Need-enum-told
 enum-told c = search needs
-
-enum-told-2 : tie.Need-enum-told-2
-enum-told-2 c = search needs
-
-enum-known-fault : tie.Need-enum-known-fault
-enum-known-fault c = search needs
 
 enum-known-part : tie.Need-enum-known-part
 enum-known-part c = search needs
@@ -50,11 +47,11 @@ enum-known-part c = search needs
 read-requires : tie.Need-read-requires
 read-requires c κs = search needs
 
-enum-known-refusal : tie.Need-enum-known-refusal
-enum-known-refusal c = search needs
+enum-known-refusal-2 : tie.Need-enum-known-refusal-2
+enum-known-refusal-2 c = search needs
 
-enum-told-3 : tie.Need-enum-told-3
-enum-told-3 c = search needs
+enum-told-2 : tie.Need-enum-told-2
+enum-told-2 c = search needs
 
 slice-requires : tie.Need-slice-requires
 slice-requires c κs = search needs
@@ -65,31 +62,28 @@ compare-messages-requires c κs =
     let a = answered (c .before .before .before .before .before .before) in
     let golden = message-is (c .before) in
     let size = good-size _ _ _ (a .judged) in
-    let radio = accepted-most _ _ (λ k. c .before .before .before .before .before .before .before .before .before .before .shared-slice-known2 .given k .fits) (sym (ap told (sym (c .before .before .enum-told3 .given .1)) ∙ c .before .before .before .before .read .ensures)) in
+    let radio = accepted-most _ _ (λ k. c .before .before .before .before .before .before .before .before .before .before .shared-slice-known2 .given k .fits) (sym (ap told (sym (c .before .before .enum-told2 .given .1)) ∙ c .before .before .before .before .read .ensures)) in
     (rw golden (omega (arith, length-take (storedLength (recordAt (start .args .file .now) (start .args .n))) (drop headSize (recordAt (start .args .file .now) (start .args .n))))), omega (arith, radio))
 
 returns : tie.Need-returns
-returns c = declines _ _ _ (by-refused _ _ _ _ (ap toldReached (sym (c .enum-told .given .1)) ∙ c .before .before .answer-at .ensures))
+returns c = refuses _ _ _ (by-refused _ _ _ _ (ap toldReached (sym (c .before .refusal .given .1)) ∙ c .before .before .before .answer-at .ensures))
 
 returns-2 : tie.Need-returns-2
-returns-2 c = declines _ _ _ (by-end _ _ _ (ap toldReached (sym (c .enum-told2 .given .1)) ∙ c .before .before .answer-at .ensures))
+returns-2 c = refuses _ _ _ (by-end _ _ _ (ap toldReached (sym (c .enum-told .given .1)) ∙ c .before .before .answer-at .ensures))
 
 returns-3 : tie.Need-returns-3
-returns-3 c = declines _ _ _ (by-refused _ _ _ _ (ap toldReached (sym (c .before .fault .given .1)) ∙ c .before .before .before .answer-at .ensures))
-
-returns-4 : tie.Need-returns-4
-returns-4 c =
+returns-3 c =
     let a = answered (c .before .before .before .before .before) in
-    declines _ _ _ (a .compared ∙ ap (withRadio _ _) (sym (ap told (sym (c .before .refusal .given .1)) ∙ c .before .before .before .read .ensures)))
+    refuses _ _ _ (a .compared ∙ ap (withRadio _ _) (sym (ap told (sym (c .before .refusal2 .given .1)) ∙ c .before .before .before .read .ensures)))
 
 same-length : tie.Need-same-length
 same-length c = search needs
 
-returns-5 : tie.Need-returns-5
-returns-5 c =
+returns-4 : tie.Need-returns-4
+returns-4 c =
     let slice = c .before .before .before .before in
     let a = answered (slice .before .before .before .before .before) in
-    let radio = sym (ap told (sym (slice .before .enum-told3 .given .1)) ∙ slice .before .before .before .read .ensures) in
+    let radio = sym (ap told (sym (slice .before .enum-told2 .given .1)) ∙ slice .before .before .before .read .ensures) in
     compares-same _ _ _ _ _ _ _ (message-is slice) (a .compared ∙ ap (withRadio _ _) radio) (c .before .before .compare-messages .ensures)
 
 pub compare-spec : {M : Type 1} → statement M
@@ -97,18 +91,16 @@ compare-spec =
     tie.close
     (tie.spec
     answer-at-requires
+    enum-known-refusal
     enum-told
-    enum-told-2
-    enum-known-fault
     enum-known-part
     read-requires
-    enum-known-refusal
-    enum-told-3
+    enum-known-refusal-2
+    enum-told-2
     slice-requires
     compare-messages-requires
     returns
     returns-2
     returns-3
-    returns-4
     same-length
-    returns-5)
+    returns-4)

@@ -4,12 +4,12 @@ use Prim.Native.Nat.{_≤_, _-_}
 use native.Mathlib.Omega.{arith}
 use lib.ListN.{length, drop}
 use Rattle.golden.proofs.BeginningLaws.{begins-out, begins-stop, begins-more, begins-end}
-use Rattle.golden.specs.Comparing.{begins}
+use Rattle.golden.specs.Comparing.{isBeginning}
 use Rattle.golden.proofs.comparer.is_beginning.Statement.{statement}
 use Rattle.golden.proofs.comparer.is_beginning.Tie as tie
 
 abbrev Inv-loop : tie.InvT-loop
-Inv-loop start whole i₀ i = (i ≤ length start) × (begins start whole ≡ begins (drop i start) (drop i whole))
+Inv-loop start whole i₀ i = (i ≤ length start) × (isBeginning start whole ≡ isBeginning (drop i start) (drop i whole))
 
 abbrev μ-loop : tie.MeasureT-loop
 μ-loop start whole i₀ i = length start - i

@@ -8,22 +8,22 @@ use Rattle.envelope.specs.Told.{told}
 use Rattle.golden.proofs.OpeningLaws.{opened-23, opened-24, opened-by}
 use Rattle.golden.proofs.RecordLaws.{length-most}
 use Rattle.golden.specs.Helpers.{openedAs}
-use Rattle.golden.specs.Record.{longestMessage, byReading}
+use Rattle.golden.specs.Record.{messageRoom, byReading}
 use Rattle.golden.proofs.record.open.Statement.{statement}
 use Rattle.golden.proofs.record.open.Tie as tie
 
 -- a length that is not refused leaves the message inside the record
-short : (c : tie.Else1) → c .before .before .stored-length .result ≤ longestMessage
-short c = length-most _ (sym (c .before .length-refused .ensures) ∙ c .if1 .left)
+short : (c : tie.Else1) → c .before .before .stored-length .result ≤ messageRoom
+short c = length-most _ (sym (c .before .bad-length .ensures) ∙ c .if1 .left)
 
 stored-length-requires : tie.Need-stored-length-requires
 stored-length-requires c κs = search needs
 
-length-refused-requires : tie.Need-length-refused-requires
-length-refused-requires c κs = search needs
+bad-length-requires : tie.Need-bad-length-requires
+bad-length-requires c κs = search needs
 
 returns : tie.Need-returns
-returns c = opened-23 _ _ (c .before .before .stored-length .ensures) (sym (c .before .length-refused .ensures) ∙ c .if1 .taken)
+returns c = opened-23 _ _ (c .before .before .stored-length .ensures) (sym (c .before .bad-length .ensures) ∙ c .if1 .taken)
 
 add-end : tie.Need-add-end
 add-end c = let k = short c in omega arith
@@ -43,7 +43,7 @@ all-zero-requires c κs = search needs
 returns-2 : tie.Need-returns-2
 returns-2 c =
     let size = c .before .before .before .before .before in
-    opened-24 _ _ (size .stored-length .ensures) (sym (c .before .before .before .before .length-refused .ensures) ∙ c .before .before .before .if1 .left) _ (c .before .all-zero .ensures) (c .if2 .taken)
+    opened-24 _ _ (size .stored-length .ensures) (sym (c .before .before .before .before .bad-length .ensures) ∙ c .before .before .before .if1 .left) _ (c .before .all-zero .ensures) (c .if2 .taken)
 
 sub-read : tie.Need-sub-read
 sub-read c = search needs
@@ -68,21 +68,21 @@ returns-3 c =
     let clear = c .before .before .before .before .before in
     let size = clear .before .before .before .before .before in
     ap (λ (a : Answer). openedAs (size .stored-length .result) (byReading a)) (ap told (sym (c .before .envelope .given .1)))
-    ∙ opened-by _ _ (size .stored-length .ensures) (sym (clear .before .before .before .before .length-refused .ensures) ∙ clear .before .before .before .if1 .left) _ (clear .before .all-zero .ensures) (clear .if2 .left) _ (c .before .before .before .read .ensures)
+    ∙ opened-by _ _ (size .stored-length .ensures) (sym (clear .before .before .before .before .bad-length .ensures) ∙ clear .before .before .before .if1 .left) _ (clear .before .all-zero .ensures) (clear .if2 .left) _ (c .before .before .before .read .ensures)
 
 returns-4 : tie.Need-returns-4
 returns-4 c =
     let clear = c .before .before .before .before .before in
     let size = clear .before .before .before .before .before in
     ap (λ (a : Answer). openedAs (size .stored-length .result) (byReading a)) (ap told (sym (c .before .refusal .given .1)))
-    ∙ opened-by _ _ (size .stored-length .ensures) (sym (clear .before .before .before .before .length-refused .ensures) ∙ clear .before .before .before .if1 .left) _ (clear .before .all-zero .ensures) (clear .if2 .left) _ (c .before .before .before .read .ensures)
+    ∙ opened-by _ _ (size .stored-length .ensures) (sym (clear .before .before .before .before .bad-length .ensures) ∙ clear .before .before .before .if1 .left) _ (clear .before .all-zero .ensures) (clear .if2 .left) _ (c .before .before .before .read .ensures)
 
 pub open-spec : {M : Type 1} → statement M
 open-spec =
     tie.close
     (tie.spec
     stored-length-requires
-    length-refused-requires
+    bad-length-requires
     returns
     add-end
     sub-all-zero

@@ -1,30 +1,30 @@
--- `writer::ends_refused` is rule 12: either address, or one that is not empty where there is no addressing.
+-- `writer::bad_ends` is rule 12: either address, or one that is not empty where there is no addressing.
 use mathlib.Core.Bool.{false}
 use mathlib.Core.Path.{_≡_, sym, _∙_}
 use borrow.Author.Needs.{needs}
 use borrow.Author.Tests.{eq-eqb, ne-eqb}
 use Rattle.envelope.specs.Writing.{badEnd}
-use Rattle.envelope.proofs.writer.ends_refused.Statement.{statement}
-use Rattle.envelope.proofs.writer.ends_refused.Tie as tie
+use Rattle.envelope.proofs.writer.bad_ends.Statement.{statement}
+use Rattle.envelope.proofs.writer.bad_ends.Tie as tie
 
 -- both addresses are good by themselves
 source-kept : (c : tie.Else1) → badEnd (c .before .before .before .before .args .source .now) ≡ false
-source-kept c = sym (c .before .end-refused .ensures) ∙ c .if1 .left
+source-kept c = sym (c .before .bad-end .ensures) ∙ c .if1 .left
 
 destination-kept : (c : tie.Else2) → badEnd (c .before .before .before .before .before .before .args .destination .now) ≡ false
-destination-kept c = sym (c .before .end-refused2 .ensures) ∙ c .if2 .left
+destination-kept c = sym (c .before .bad-end2 .ensures) ∙ c .if2 .left
 
-end-refused-requires : tie.Need-end-refused-requires
-end-refused-requires c κs = search needs
+bad-end-requires : tie.Need-bad-end-requires
+bad-end-requires c κs = search needs
 
 returns : tie.Need-returns
-returns c = rw (sym (c .before .end-refused .ensures) ∙ c .if1 .taken)
+returns c = rw (sym (c .before .bad-end .ensures) ∙ c .if1 .taken)
 
-end-refused-requires-2 : tie.Need-end-refused-requires-2
-end-refused-requires-2 c κs = search needs
+bad-end-requires-2 : tie.Need-bad-end-requires-2
+bad-end-requires-2 c κs = search needs
 
 returns-2 : tie.Need-returns-2
-returns-2 c = rw (source-kept (c .before .before), sym (c .before .end-refused2 .ensures) ∙ c .if2 .taken)
+returns-2 c = rw (source-kept (c .before .before), sym (c .before .bad-end2 .ensures) ∙ c .if2 .taken)
 
 enum-told : tie.Need-enum-told
 enum-told c = search needs
@@ -47,13 +47,13 @@ returns-5 c =
     let else2 = c .before .before in
     rw (source-kept (else2 .before .before), destination-kept else2, c .enum-told2 .given .1)
 
-pub ends-refused-spec : {M : Type 1} → statement M
-ends-refused-spec =
+pub bad-ends-spec : {M : Type 1} → statement M
+bad-ends-spec =
     tie.close
     (tie.spec
-    end-refused-requires
+    bad-end-requires
     returns
-    end-refused-requires-2
+    bad-end-requires-2
     returns-2
     enum-told
     returns-3

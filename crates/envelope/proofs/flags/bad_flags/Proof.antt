@@ -1,9 +1,9 @@
--- `flags::refused` is rule 3: either test is enough.
+-- `flags::bad_flags` is rule 3: either test is enough.
 use borrow.Author.Needs.{needs}
 use borrow.Author.Tests.{eq-eqb, ne-eqb}
 use Rattle.envelope.specs.Flags.{badFlags}
-use Rattle.envelope.proofs.flags.refused.Statement.{statement}
-use Rattle.envelope.proofs.flags.refused.Tie as tie
+use Rattle.envelope.proofs.flags.bad_flags.Statement.{statement}
+use Rattle.envelope.proofs.flags.bad_flags.Tie as tie
 
 returns : tie.Need-returns
 unfolding badFlags
@@ -16,5 +16,5 @@ returns-2 : tie.Need-returns-2
 unfolding badFlags
 returns-2 c = simp (eq-eqb _ _ (c .before .if1 .left), c .kind .ensures)
 
-pub refused-spec : {M : Type 1} → statement M
-refused-spec = tie.close (tie.spec returns kind-requires returns-2)
+pub bad-flags-spec : {M : Type 1} → statement M
+bad-flags-spec = tie.close (tie.spec returns kind-requires returns-2)

@@ -1,8 +1,8 @@
--- `writer::integrity_refused` is rule 14.
+-- `writer::stray_integrity` is rule 14.
 use borrow.Author.Tests.{eq-eqb, ne-eqb}
 use Rattle.envelope.specs.Writing.{strayIntegrity}
-use Rattle.envelope.proofs.writer.integrity_refused.Statement.{statement}
-use Rattle.envelope.proofs.writer.integrity_refused.Tie as tie
+use Rattle.envelope.proofs.writer.stray_integrity.Statement.{statement}
+use Rattle.envelope.proofs.writer.stray_integrity.Tie as tie
 
 returns : tie.Need-returns
 unfolding strayIntegrity
@@ -16,5 +16,5 @@ returns-3 : tie.Need-returns-3
 unfolding strayIntegrity
 returns-3 c = rw (ne-eqb _ _ (c .before .if1 .left), ne-eqb _ _ (c .if2 .left))
 
-pub integrity-refused-spec : {M : Type 1} → statement M
-integrity-refused-spec = tie.close (tie.spec returns returns-2 returns-3)
+pub stray-integrity-spec : {M : Type 1} → statement M
+stray-integrity-spec = tie.close (tie.spec returns returns-2 returns-3)
