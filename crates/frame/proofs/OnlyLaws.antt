@@ -5,28 +5,29 @@ use mathlib.Core.Path.{_≡_, refl, ap, sym, _∙_}
 use Prim.Native.Nat.{ℕ}
 use lib.Dec.{eqb}
 use lib.ListN.{length}
-use Rattle.envelope.proofs.OnlyLaws.{only-by-telling, untoldFault, untold-fault, only-reads}
+use Rattle.envelope.proofs.OnlyLaws.{only-by-telling, untoldRefusal, untold-refusal, only-numbers, only-reads}
 use Rattle.envelope.specs.Fields.{accepted, partOf}
 use Rattle.envelope.specs.Promise.{Only₁, Only₂}
+use Rattle.envelope.specs.Refusals.{Refused, plainly, passingOn}
 use Rattle.envelope.specs.Told.{toldPart, toldEnvelope}
 use Rattle.envelope.specs.declared.reader.Reading.the-variants.{Accepted}
 use Rattle.frame.specs.Capturing.{MeasuresFirst}
-use Rattle.frame.specs.Wrapping.{Outcome, wrapping, acknowledging, WrapAnswer, wrote, barred, answerOf, toldWrapped, Answers, Wraps, Acknowledges}
+use Rattle.frame.specs.Wrapping.{WrapOutcome, wrapping, acknowledging, WrapAnswer, wrote, refused, wrapAnswer, toldWrapped, Answers, Wraps, Acknowledges}
 use Rattle.frame.specs.Unwrapping.{message, toldUnwrapped, Unwraps}
-use Rattle.frame.specs.Refusal.{Refused, plainly, passingOn, toldFrameFault, RefusalNumbers, numbersOf, toldNumbers, NumbersFault}
+use Rattle.frame.specs.Refusal.{toldFrameRefusal, NumbersFrameRefusal}
 use Rattle.frame.specs.declared.wrapper.Wrapped.{Wrapped}
 use Rattle.frame.specs.declared.wrapper.Wrapped.the-variants as wrapped
 use Rattle.frame.specs.declared.unwrapper.DataMessage.{DataMessage}
-use Rattle.frame.specs.declared.unwrapper.Fault.{Fault}
-use Rattle.frame.specs.declared.unwrapper.Fault.the-variants.{TooShort, NoStx, WrongVersion, OtherType, WrongLength, NoEtx, Unread, NoRoom}
+use Rattle.frame.specs.declared.refusal.Refusal.{Refusal}
+use Rattle.frame.specs.declared.refusal.Refusal.the-variants.{TooShort, NoStx, WrongVersion, OtherType, WrongLength, NoEtx, MessageRefused, NoRoom}
 use Rattle.frame.specs.declared.unwrapper.Unwrapped.{Unwrapped}
-use Rattle.frame.specs.declared.unwrapper.Unwrapped.the-variants.{Data, Acknowledged, Refused as Declined}
+use Rattle.frame.specs.declared.unwrapper.Unwrapped.the-variants.{Data, Acknowledged, Refused as Refuses}
 use Rattle.frame.proofs.RoundTripLaws.{carried}
 
 -- ---- refusals
 
-abbrev untoldFrameFault : Refused → Fault
-untoldFrameFault (plainly n) =
+abbrev untoldFrameRefusal : Refused → Refusal
+untoldFrameRefusal (plainly n) =
     cond (eqb n 61) TooShort
     (cond (eqb n 62) NoStx
     (cond (eqb n 63) WrongVersion
@@ -34,24 +35,23 @@ untoldFrameFault (plainly n) =
     (cond (eqb n 65) WrongLength
     (cond (eqb n 66) NoEtx
     NoRoom)))))
-untoldFrameFault (passingOn n r) = Unread (record { fault = untoldFault (r .number) })
+untoldFrameRefusal (passingOn n r) = MessageRefused (untoldRefusal r)
 
-untold-frame-fault : (f : Fault) → untoldFrameFault (toldFrameFault f) ≡ f
-untold-frame-fault TooShort = refl
-untold-frame-fault NoStx = refl
-untold-frame-fault WrongVersion = refl
-untold-frame-fault OtherType = refl
-untold-frame-fault WrongLength = refl
-untold-frame-fault NoEtx = refl
-untold-frame-fault (Unread r) = λ i. Unread (record { fault = untold-fault (r .fault) i })
-untold-frame-fault NoRoom = refl
+untold-frame-refusal : (f : Refusal) → untoldFrameRefusal (toldFrameRefusal f) ≡ f
+untold-frame-refusal TooShort = refl
+untold-frame-refusal NoStx = refl
+untold-frame-refusal WrongVersion = refl
+untold-frame-refusal OtherType = refl
+untold-frame-refusal WrongLength = refl
+untold-frame-refusal NoEtx = refl
+untold-frame-refusal (MessageRefused r) = ap MessageRefused (untold-refusal r)
+untold-frame-refusal NoRoom = refl
 
-same-fault : (f g : Fault) → toldFrameFault f ≡ toldFrameFault g → f ≡ g
-same-fault f g e = sym (untold-frame-fault f) ∙ ap untoldFrameFault e ∙ untold-frame-fault g
+same-refusal : (f g : Refusal) → toldFrameRefusal f ≡ toldFrameRefusal g → f ≡ g
+same-refusal f g e = sym (untold-frame-refusal f) ∙ ap untoldFrameRefusal e ∙ untold-frame-refusal g
 
-pub only-numbers-fault : (f : Fault) → Only₁ (NumbersFault f)
-only-numbers-fault f =
-    only-by-telling toldNumbers (λ (r : RefusalNumbers). record { number = r .number; reading = r .reading }) (λ a. refl) (numbersOf (toldFrameFault f))
+pub only-numbers-frame-refusal : (f : Refusal) → Only₁ (NumbersFrameRefusal f)
+only-numbers-frame-refusal f = only-numbers (toldFrameRefusal f)
 
 -- ---- unwrap
 
@@ -73,30 +73,30 @@ only-unwraps s a b p q = go a b p (p ∙ sym q)
     go : (a b : Unwrapped) → Unwraps s a → toldUnwrapped a ≡ toldUnwrapped b → a ≡ b
     go (Data c) (Data d) p e = ap Data (same-capture c d s p e)
     go (Data c) (Acknowledged y) p e = cc
-    go (Data c) (Declined g) p e = cc
+    go (Data c) (Refuses g) p e = cc
     go (Acknowledged x) (Data d) p e = cc
     go (Acknowledged x) (Acknowledged y) p e =
         let ec : x .commid ≡ y .commid = cc in
         let ea : x .acknowledged ≡ y .acknowledged = cc in
         λ i. Acknowledged (record { commid = ec i; acknowledged = ea i })
-    go (Acknowledged x) (Declined g) p e = cc
-    go (Declined f) (Data d) p e = cc
-    go (Declined f) (Acknowledged y) p e = cc
-    go (Declined f) (Declined g) p e = let x : toldFrameFault f ≡ toldFrameFault g = cc in ap Declined (same-fault f g x)
+    go (Acknowledged x) (Refuses g) p e = cc
+    go (Refuses f) (Data d) p e = cc
+    go (Refuses f) (Acknowledged y) p e = cc
+    go (Refuses f) (Refuses g) p e = let x : toldFrameRefusal f ≡ toldFrameRefusal g = cc in ap Refuses (same-refusal f g x)
 
 -- ---- wrap and acknowledge: the answer and the whole buffer
 
 abbrev untoldWrapped : WrapAnswer → Wrapped
 untoldWrapped (wrote n) = wrapped.Written n
-untoldWrapped (barred r) = wrapped.Refused (untoldFrameFault r)
+untoldWrapped (refused r) = wrapped.Refused (untoldFrameRefusal r)
 
 untold-wrapping : (r : Wrapped) → untoldWrapped (toldWrapped r) ≡ r
 untold-wrapping (wrapped.Written n) = refl
-untold-wrapping (wrapped.Refused f) = ap wrapped.Refused (untold-frame-fault f)
+untold-wrapping (wrapped.Refused f) = ap wrapped.Refused (untold-frame-refusal f)
 
-only-answers : (o : Outcome) (entry : List ℕ) → Only₂ (Answers o entry)
+only-answers : (o : WrapOutcome) (entry : List ℕ) → Only₂ (Answers o entry)
 only-answers o entry a b x y p q =
-    (only-by-telling toldWrapped untoldWrapped untold-wrapping (answerOf o) a b (p .0) (q .0), p .1 ∙ sym (q .1))
+    (only-by-telling toldWrapped untoldWrapped untold-wrapping (wrapAnswer o) a b (p .0) (q .0), p .1 ∙ sym (q .1))
 
 pub only-wraps : (m : List ℕ) (commid : ℕ) (entry : List ℕ) → Only₂ (Wraps m commid entry)
 only-wraps m commid entry = only-answers (wrapping m commid (length entry)) entry

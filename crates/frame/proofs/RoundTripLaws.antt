@@ -18,15 +18,15 @@ use Rattle.envelope.specs.Message.{inFour}
 use Rattle.envelope.specs.Numbers.{byteAt}
 use Rattle.envelope.specs.Promise.{Bytes}
 use Rattle.envelope.specs.Reading.{reading}
+use Rattle.envelope.specs.Refusals.{plainly}
 use Rattle.envelope.specs.Told.{toldPart, toldEnvelope}
-use Rattle.frame.specs.Wrapping.{Outcome, written, declined, wrapping, acknowledging, putDown, bufferAfter, wrote, barred, answerOf, toldWrapped, Answers}
+use Rattle.frame.specs.Wrapping.{WrapOutcome, written, refused, wrapping, acknowledging, putDown, afterWrapping, wrote, refused, wrapAnswer, toldWrapped, Answers}
 use Rattle.frame.specs.Unwrapping as unwrap
 use Rattle.frame.specs.Wrapping as wrap
 use Rattle.frame.specs.Capturing.{isFrame}
 use Rattle.frame.specs.Frames.{headerBytes, frame, dataFrame, acknowledgmentFrame}
-use Rattle.frame.specs.Unwrapping.{typeOf, commidOf, dataLength, acknowledgedOf, bodySpan, otherType, wrongLength, UnwrapAnswer, message, acknowledgment, afterReading, carrying, unwrapping}
+use Rattle.frame.specs.Unwrapping.{typeOf, commidOf, dataLength, acknowledgedOf, bodySpan, otherType, wrongLength, UnwrapAnswer, message, acknowledgment, unwrappingRead, carrying, unwrapping}
 use Rattle.frame.specs.Layout.{etx, dataType, acknowledgmentType, bodyPlace, leastSize, commidPlace, lengthPlace, commidSize, largestLength}
-use Rattle.frame.specs.Refusal.{plainly}
 use Rattle.frame.specs.RoundTrips.{UnwrapsAs, TellsMessage, WrappedThenUnwrapped, WrappedBufferThenUnwrapped, UnwrappedThenWrapped, UnwrappedThenWrappedBuffer, AcknowledgedThenUnwrapped, AcknowledgedBufferThenUnwrapped, UnwrappedThenAcknowledged, UnwrappedThenAcknowledgedBuffer, Kind, data-message, an-acknowledgment, OneOrTheOther, NeverBoth}
 use Rattle.frame.specs.declared.wrapper.Wrapped as code
 use Rattle.frame.proofs.WrapLaws.{past-69, room-enough}
@@ -111,7 +111,7 @@ unwraps-as m commid f e =
     }
 
 -- what is written is the frame
-only-frame : (b c : Bool) (frame s : List ℕ) → cond b (declined (plainly 69)) (cond c (declined (plainly 68)) (written frame)) ≡ written s → frame ≡ s
+only-frame : (b c : Bool) (frame s : List ℕ) → cond b (refused (plainly 69)) (cond c (refused (plainly 68)) (written frame)) ≡ written s → frame ≡ s
 only-frame true c frame s e = cc
 only-frame false true frame s e = cc
 only-frame false false frame s e = cc
@@ -120,18 +120,18 @@ pub wrapped-then-unwrapped : WrappedThenUnwrapped
 unfolding wrapping
 wrapped-then-unwrapped m commid room s = go (reading m) refl
   where
-    go : (a : Answer) → reading m ≡ a → wrap.afterReading a m commid room ≡ written s → UnwrapsAs s commid m
+    go : (a : Answer) → reading m ≡ a → wrap.wrappingRead a m commid room ≡ written s → UnwrapsAs s commid m
     go (refused r) e d = let z : _≡_ {A = ℕ} 0 1 = cc in absurd (omega arith)
     go (accepted f) e d =
         rw (← only-frame (ltb largestLength (length m)) (ltb room (length (dataFrame commid m))) (dataFrame commid m) s d) (unwraps-as m commid f e)
 
 -- an outcome that the code answered with a length, and the front of the buffer
-record Front (o : Outcome) (n : ℕ) (exit : List ℕ) : Type 0 where
+record Front (o : WrapOutcome) (n : ℕ) (exit : List ℕ) : Type 0 where
   bytes : List ℕ
   outcome : o ≡ written bytes
   front : take n exit ≡ bytes
 
-front-of : (o : Outcome) (entry exit : List ℕ) (r : code.Wrapped) (n : ℕ) → Answers o entry r exit → toldWrapped r ≡ wrote n → Front o n exit
+front-of : (o : WrapOutcome) (entry exit : List ℕ) (r : code.Wrapped) (n : ℕ) → Answers o entry r exit → toldWrapped r ≡ wrote n → Front o n exit
 front-of (written s) entry exit r n w e =
     let k : n ≡ length s = same n (length s) (sym e ∙ w .0) in
     record {
@@ -142,7 +142,7 @@ front-of (written s) entry exit r n w e =
   where
     same : (m n : ℕ) → wrote m ≡ wrote n → m ≡ n
     same m n e = cc
-front-of (declined x) entry exit r n w e = let z : wrote n ≡ barred x = sym e ∙ w .0 in let y : _≡_ {A = ℕ} 0 1 = cc in absurd (omega arith)
+front-of (refused x) entry exit r n w e = let z : wrote n ≡ refused x = sym e ∙ w .0 in let y : _≡_ {A = ℕ} 0 1 = cc in absurd (omega arith)
 
 pub wrapped-buffer-then-unwrapped : WrappedBufferThenUnwrapped
 wrapped-buffer-then-unwrapped m commid entry exit r n u w e h =
@@ -244,7 +244,7 @@ carried s commid p f e = go (eqb (typeOf s) acknowledgmentType) refl (sym (i .ca
     i : Opened s
     i = opened s (ap isFrame e)
 
-    read-as : (a : Answer) → reading (partOf s (bodySpan s)) ≡ a → eqb (typeOf s) acknowledgmentType ≡ false → afterReading a s ≡ message commid p f → Carried s commid p f
+    read-as : (a : Answer) → reading (partOf s (bodySpan s)) ≡ a → eqb (typeOf s) acknowledgmentType ≡ false → unwrappingRead a s ≡ message commid p f → Carried s commid p f
     read-as (refused r) ea et d = let z : _≡_ {A = ℕ} 0 1 = cc in absurd (omega arith)
     read-as (accepted g) ea et d =
         let ep : bodySpan s ≡ p = cc in
@@ -257,7 +257,7 @@ carried s commid p f e = go (eqb (typeOf s) acknowledgmentType) refl (sym (i .ca
           reads = ap (λ (x : Span). reading (partOf s x)) (sym ep) ∙ ea ∙ ap accepted eg;
         }
 
-    go : (b : Bool) → eqb (typeOf s) acknowledgmentType ≡ b → cond b (acknowledgment (commidOf s) (acknowledgedOf s)) (afterReading (reading (partOf s (bodySpan s))) s) ≡ message commid p f → Carried s commid p f
+    go : (b : Bool) → eqb (typeOf s) acknowledgmentType ≡ b → cond b (acknowledgment (commidOf s) (acknowledgedOf s)) (unwrappingRead (reading (partOf s (bodySpan s))) s) ≡ message commid p f → Carried s commid p f
     go true et d = let z : _≡_ {A = ℕ} 0 1 = cc in absurd (omega arith)
     go false et d = read-as (reading (partOf s (bodySpan s))) refl et d
 
@@ -276,8 +276,8 @@ unwrapped-then-wrapped s commid p f room bytes e h =
     ∙ ap written same
 
 -- an outcome that is written, as the code answers it
-answered : (o : Outcome) (s entry exit : List ℕ) (r : code.Wrapped) → o ≡ written s → Answers o entry r exit → (toldWrapped r ≡ wrote (length s)) × (exit ≡ putDown s entry)
-answered o s entry exit r e w = (w .0 ∙ ap answerOf e, w .1 ∙ ap (λ (x : Outcome). bufferAfter x entry) e)
+answered : (o : WrapOutcome) (s entry exit : List ℕ) (r : code.Wrapped) → o ≡ written s → Answers o entry r exit → (toldWrapped r ≡ wrote (length s)) × (exit ≡ putDown s entry)
+answered o s entry exit r e w = (w .0 ∙ ap wrapAnswer e, w .1 ∙ ap (λ (x : WrapOutcome). afterWrapping x entry) e)
 
 pub unwrapped-then-wrapped-buffer : UnwrappedThenWrappedBuffer
 unwrapped-then-wrapped-buffer s d entry exit r bytes e h w =
@@ -299,11 +299,11 @@ heard s commid acknowledged e = go (eqb (typeOf s) acknowledgmentType) refl (sym
     i : Opened s
     i = opened s (ap isFrame e)
 
-    not-message : (a : Answer) → afterReading a s ≡ acknowledgment commid acknowledged → ⊥
+    not-message : (a : Answer) → unwrappingRead a s ≡ acknowledgment commid acknowledged → ⊥
     not-message (refused r) d = let z : _≡_ {A = ℕ} 0 1 = cc in omega arith
     not-message (accepted g) d = let z : _≡_ {A = ℕ} 0 1 = cc in omega arith
 
-    go : (b : Bool) → eqb (typeOf s) acknowledgmentType ≡ b → cond b (acknowledgment (commidOf s) (acknowledgedOf s)) (afterReading (reading (partOf s (bodySpan s))) s) ≡ acknowledgment commid acknowledged → Heard s commid acknowledged
+    go : (b : Bool) → eqb (typeOf s) acknowledgmentType ≡ b → cond b (acknowledgment (commidOf s) (acknowledgedOf s)) (unwrappingRead (reading (partOf s (bodySpan s))) s) ≡ acknowledgment commid acknowledged → Heard s commid acknowledged
     go true et d = record { whole = i .frame; type-is = eqb-true _ _ et; commid-is = cc; acknowledged-is = cc }
     go false et d = absurd (not-message (reading (partOf s (bodySpan s))) d)
 
@@ -341,7 +341,7 @@ one-or-the-other s bytes = go (unwrapping s) refl
     go : (a : UnwrapAnswer) → unwrapping s ≡ a → isFrame (unwrapping s) ≡ true → Kind s
     go (message commid p f) e h = data-message commid (partOf s p) (data-frame-of s commid p f bytes e)
     go (acknowledgment commid acknowledged) e h = an-acknowledgment commid acknowledged (acknowledgment-frame-of s commid acknowledged bytes e)
-    go (unwrap.declined r) e h = let x : false ≡ true = sym (ap isFrame e) ∙ h in let z : _≡_ {A = ℕ} 0 1 = cc in absurd (omega arith)
+    go (unwrap.refused r) e h = let x : false ≡ true = sym (ap isFrame e) ∙ h in let z : _≡_ {A = ℕ} 0 1 = cc in absurd (omega arith)
 
 pub never-both : NeverBoth
 unfolding frame

@@ -12,12 +12,12 @@ use Rattle.envelope.specs.Fields.{Span, Answer, accepted, refused, partOf}
 use Rattle.envelope.specs.Layout.{largestMessage}
 use Rattle.envelope.specs.Message.{inFour}
 use Rattle.envelope.specs.Reading.{reading}
+use Rattle.envelope.specs.Refusals.{plainly}
 use Rattle.frame.specs.Frames.{dataFrame, acknowledgmentFrame}
 use Rattle.frame.specs.Layout.{leastSize, dataType, acknowledgmentType}
-use Rattle.frame.specs.Refusal.{plainly}
 use Rattle.frame.specs.Sizes.{messageSize, wroteLength, WrapTellsItsLength, AcknowledgeTellsItsLength, UnwrapsNoLonger, WrapsNoLonger, AcknowledgesNoLonger}
-use Rattle.frame.specs.Unwrapping.{UnwrapAnswer, message, acknowledgment, declined, unwrapping}
-use Rattle.frame.specs.Wrapping.{wrote, answerOf, wrapping, acknowledging}
+use Rattle.frame.specs.Unwrapping.{UnwrapAnswer, message, acknowledgment, refused, unwrapping}
+use Rattle.frame.specs.Wrapping.{wrote, wrapAnswer, wrapping, acknowledging}
 use Rattle.frame.specs.Wrapping as wrap
 use Rattle.frame.proofs.PutLaws.{frame-length}
 use Rattle.frame.proofs.RoundTripLaws.{body-length, carried}
@@ -34,17 +34,17 @@ unwraps-no-longer s bytes = go (unwrapping s) refl
         let size : length (partOf s p) ≡ p .size = ap (λ (x : Span). length (partOf s x)) (sym (k .span-is)) ∙ long ∙ ap (λ (x : Span). x .size) (k .span-is) in
         omega (arith, most, size)
     go (acknowledgment commid acknowledged) e = omega arith
-    go (declined r) e = omega arith
+    go (refused r) e = omega arith
 
 -- what fits is the frame
-fitting-size : (b : Bool) (frame : List ℕ) → wroteLength (answerOf (cond b (wrap.declined (plainly 68)) (wrap.written frame))) ≤ length frame
+fitting-size : (b : Bool) (frame : List ℕ) → wroteLength (wrapAnswer (cond b (wrap.refused (plainly 68)) (wrap.written frame))) ≤ length frame
 fitting-size true frame = omega arith
 fitting-size false frame = omega arith
 
 pub wraps-no-longer : WrapsNoLonger
 wraps-no-longer m commid room bytes = go (reading m) refl
   where
-    go : (a : Answer) → reading m ≡ a → wroteLength (answerOf (wrapping m commid room)) ≤ leastSize + largestMessage
+    go : (a : Answer) → reading m ≡ a → wroteLength (wrapAnswer (wrapping m commid room)) ≤ leastSize + largestMessage
     go (refused r) e = rw (is-67 m commid room r e) (omega arith)
     go (accepted f) e =
         let fits = fitting-size (ltb room (length (dataFrame commid m))) (dataFrame commid m) in
@@ -58,17 +58,17 @@ acknowledges-no-longer commid acknowledged room =
 
 -- ---- the length told
 
-told-length : (b : Bool) (frame : List ℕ) (n : ℕ) → answerOf (cond b (wrap.declined (plainly 68)) (wrap.written frame)) ≡ wrote n → n ≡ length frame
+told-length : (b : Bool) (frame : List ℕ) (n : ℕ) → wrapAnswer (cond b (wrap.refused (plainly 68)) (wrap.written frame)) ≡ wrote n → n ≡ length frame
 told-length true frame n e = cc
 told-length false frame n e = ap wroteLength (sym e)
 
 pub wrap-tells-its-length : WrapTellsItsLength
 wrap-tells-its-length m commid room n bytes = go (reading m) refl
   where
-    go : (a : Answer) → reading m ≡ a → answerOf (wrapping m commid room) ≡ wrote n → n ≡ leastSize + length m
-    go (refused r) e h = let x = sym (ap answerOf (is-67 m commid room r e)) ∙ h in cc
+    go : (a : Answer) → reading m ≡ a → wrapAnswer (wrapping m commid room) ≡ wrote n → n ≡ leastSize + length m
+    go (refused r) e h = let x = sym (ap wrapAnswer (is-67 m commid room r e)) ∙ h in cc
     go (accepted f) e h =
-        told-length (ltb room (length (dataFrame commid m))) (dataFrame commid m) n (sym (ap answerOf (past-69 m commid room f bytes e)) ∙ h)
+        told-length (ltb room (length (dataFrame commid m))) (dataFrame commid m) n (sym (ap wrapAnswer (past-69 m commid room f bytes e)) ∙ h)
         ∙ frame-length dataType commid m
 
 pub acknowledge-tells-its-length : AcknowledgeTellsItsLength

@@ -1,7 +1,7 @@
 -- What the rules of unwrapping say when they are kept, what a whole frame carries, and that bytes opened are whole.
 -- `s` is the list of the bytes lent.
 use mathlib.Core.Bool.{Bool, true, false, cond, not, _&&_}
-use mathlib.Core.List.{List}
+use mathlib.Core.List.{List, [], _∷_}
 use mathlib.Core.Path.{_≡_, refl, ap, _∙_, subst}
 use Prim.Native.Nat.{ℕ, _+_, _-_, _≤_}
 use native.Mathlib.Omega.{arith}
@@ -13,10 +13,10 @@ use Rattle.envelope.specs.Fields.{Fields, Answer, accepted, refused, partOf}
 use Rattle.envelope.specs.Fields as fields
 use Rattle.envelope.specs.Numbers.{byteAt}
 use Rattle.envelope.specs.Reading.{reading}
-use Rattle.frame.specs.Unwrapping.{typeOf, commidOf, dataLength, acknowledgedOf, bodySpan, tooShort, noStx, wrongVersion, otherType, wrongLength, noEtx, UnwrapAnswer, message, acknowledgment, declined, afterReading, carrying, unwrapping, UnwrapGives}
+use Rattle.envelope.specs.Refusals.{plainly, passingOn, among, Gives}
+use Rattle.frame.specs.Unwrapping.{typeOf, commidOf, dataLength, acknowledgedOf, bodySpan, tooShort, noStx, wrongVersion, otherType, wrongLength, noEtx, UnwrapAnswer, message, acknowledgment, refused, unwrappingRead, carrying, unwrapping, UnwrapGives}
 use Rattle.frame.specs.Capturing.{isFrame}
 use Rattle.frame.specs.Layout.{stx, etx, protocolVersion, messageVersion, acknowledgmentType, stxPlace, protocolVersionPlace, messageVersionPlace, bodyPlace, leastSize, commidSize}
-use Rattle.frame.specs.Refusal.{plainly, passingOn, numbersOf}
 
 -- ---- rules that are kept
 
@@ -58,7 +58,7 @@ module _ (s : List ℕ) (t commid : ℕ) (ec : commid ≡ commidOf s) where
     carries-message f e = rw (ne-eqb _ _ a, ← body, e, ec, size)
 
     pub carries-refused : (r : fields.Refusal) → reading (take (end - bodyPlace) (drop bodyPlace s)) ≡ refused r
-        → declined (passingOn 67 r) ≡ carrying s t
+        → refused (passingOn 67 r) ≡ carrying s t
     unfolding carrying
     carries-refused r e = rw (ne-eqb _ _ a, ← body, e)
 
@@ -73,8 +73,8 @@ pub record Whole (s : List ℕ) : Type 0 where
   pub whole-length : wrongLength (typeOf s) (dataLength s) (length s) ≡ false
   pub last : byteAt s (bodyPlace + dataLength s) ≡ etx
 
-past : (b : Bool) (n : ℕ) (rest : UnwrapAnswer) → isFrame (cond b (declined (plainly n)) rest) ≡ true
-    → (b ≡ false) × (isFrame rest ≡ true) × (cond b (declined (plainly n)) rest ≡ rest)
+past : (b : Bool) (n : ℕ) (rest : UnwrapAnswer) → isFrame (cond b (refused (plainly n)) rest) ≡ true
+    → (b ≡ false) × (isFrame rest ≡ true) × (cond b (refused (plainly n)) rest ≡ rest)
 past true n rest e = (cc, cc, cc)
 past false n rest e = (refl, e, refl)
 
@@ -112,19 +112,19 @@ unfolding unwrapping wrongVersion
 unwraps-whole s w =
     rw (le-ltb _ _ (w .long), eq-eqb _ _ (w .start), eq-eqb _ _ (w .protocol), eq-eqb _ _ (w .version), w .known-type, w .whole-length, eq-eqb _ _ (w .last))
 
--- ---- the numbers that unwrapping can give
+-- ---- the refusals that unwrapping can give
 
 abbrev Within : UnwrapAnswer → Type 0
 Within (message commid p f) = Unit
 Within (acknowledgment commid acknowledged) = Unit
-Within (declined r) = (61 ≤ numbersOf r .number) × (numbersOf r .number ≤ 67)
+Within (refused r) = Gives (61 ∷ 62 ∷ 63 ∷ 64 ∷ 65 ∷ 66 ∷ []) (67 ∷ []) r
 
-within-past : (b : Bool) (n : ℕ) (rest : UnwrapAnswer) → 61 ≤ n → n ≤ 67 → Within rest → Within (cond b (declined (plainly n)) rest)
-within-past true n rest least most w = (least, most)
-within-past false n rest least most w = w
+within-past : (b : Bool) (n : ℕ) (rest : UnwrapAnswer) → among (61 ∷ 62 ∷ 63 ∷ 64 ∷ 65 ∷ 66 ∷ []) n ≡ true → Within rest → Within (cond b (refused (plainly n)) rest)
+within-past true n rest h w = h
+within-past false n rest h w = w
 
-within-read : (a : Answer) (s : List ℕ) → Within (afterReading a s)
-within-read (refused r) s = (omega arith, omega arith)
+within-read : (a : Answer) (s : List ℕ) → Within (unwrappingRead a s)
+within-read (fields.refused r) s = refl
 within-read (accepted f) s = tt
 
 within-carried : (b : Bool) (commid acknowledged : ℕ) (rest : UnwrapAnswer) → Within rest → Within (cond b (acknowledgment commid acknowledged) rest)
@@ -134,12 +134,12 @@ within-carried false commid acknowledged rest w = w
 within : (s : List ℕ) → Within (unwrapping s)
 unfolding unwrapping carrying
 within s =
-    within-past (tooShort s) 61 _ (omega arith) (omega arith)
-    (within-past (noStx s) 62 _ (omega arith) (omega arith)
-    (within-past (wrongVersion (byteAt s protocolVersionPlace) (byteAt s messageVersionPlace)) 63 _ (omega arith) (omega arith)
-    (within-past (otherType (typeOf s)) 64 _ (omega arith) (omega arith)
-    (within-past (wrongLength (typeOf s) (dataLength s) (length s)) 65 _ (omega arith) (omega arith)
-    (within-past (noEtx s) 66 _ (omega arith) (omega arith)
+    within-past (tooShort s) 61 _ refl
+    (within-past (noStx s) 62 _ refl
+    (within-past (wrongVersion (byteAt s protocolVersionPlace) (byteAt s messageVersionPlace)) 63 _ refl
+    (within-past (otherType (typeOf s)) 64 _ refl
+    (within-past (wrongLength (typeOf s) (dataLength s) (length s)) 65 _ refl
+    (within-past (noEtx s) 66 _ refl
     (within-carried (eqb (typeOf s) acknowledgmentType) (commidOf s) (acknowledgedOf s) _ (within-read (reading (partOf s (bodySpan s))) s)))))))
 
 pub unwrap-gives : UnwrapGives

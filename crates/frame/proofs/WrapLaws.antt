@@ -1,8 +1,8 @@
 -- The cases of wrapping and acknowledging; that 69 cannot occur; that a refusal writes nothing.
 -- Rests on one law of the envelope: the longest accepted message.
 use mathlib.Core.Bool.{Bool, true, false, cond}
-use mathlib.Core.List.{List}
-use mathlib.Core.Path.{_≡_, refl, ap, sym, _∙_}
+use mathlib.Core.List.{List, [], _∷_}
+use mathlib.Core.Path.{_≡_, refl, ap, sym, _∙_, subst}
 use Prim.Native.Nat.{ℕ, _+_, _≤_, _<_}
 use native.Mathlib.Omega.{arith}
 use borrow.Author.Tests.{lt-ltb, le-ltb}
@@ -13,21 +13,21 @@ use Rattle.envelope.specs.Fields.{Fields, Answer, accepted, refused}
 use Rattle.envelope.specs.Fields as fields
 use Rattle.envelope.specs.Promise.{Bytes}
 use Rattle.envelope.specs.Reading.{reading}
-use Rattle.frame.specs.Wrapping.{Outcome, written, declined, fitting, wrapping, acknowledging, putDown, bufferAfter, wrote, barred, answerOf, Never69, RefusalWritesNothing, WrapGives, AcknowledgeGives}
+use Rattle.envelope.specs.Refusals.{Refused, plainly, passingOn, Gives}
+use Rattle.frame.specs.Wrapping.{WrapOutcome, written, refused, fitting, wrapping, acknowledging, putDown, afterWrapping, wrote, wrapAnswer, Never69, RefusalWritesNothing, WrapGives, AcknowledgeGives}
 use Rattle.frame.specs.Frames.{frame, dataFrame, acknowledgmentFrame}
 use Rattle.frame.specs.Layout.{leastSize, largestLength}
-use Rattle.frame.specs.Refusal.{Refused, plainly, passingOn, numbersOf}
 use Rattle.frame.proofs.PutLaws.{frame-length}
 
 -- ---- the cases
 
-pub no-room : (t commid : ℕ) (body : List ℕ) (room : ℕ) → room < leastSize + length body → fitting (frame t commid body) room ≡ declined (plainly 68)
+pub no-room : (t commid : ℕ) (body : List ℕ) (room : ℕ) → room < leastSize + length body → fitting (frame t commid body) room ≡ refused (plainly 68)
 no-room t commid body room h = rw (lt-ltb room (length (frame t commid body)) (omega (arith, frame-length t commid body)))
 
 pub room-enough : (t commid : ℕ) (body : List ℕ) (room : ℕ) → leastSize + length body ≤ room → fitting (frame t commid body) room ≡ written (frame t commid body)
 room-enough t commid body room h = rw (le-ltb room (length (frame t commid body)) (omega (arith, frame-length t commid body)))
 
-pub is-67 : (m : List ℕ) (commid room : ℕ) (r : fields.Refusal) → reading m ≡ refused r → wrapping m commid room ≡ declined (passingOn 67 r)
+pub is-67 : (m : List ℕ) (commid room : ℕ) (r : fields.Refusal) → reading m ≡ refused r → wrapping m commid room ≡ refused (passingOn 67 r)
 unfolding wrapping
 is-67 m commid room r e = rw e
 
@@ -41,51 +41,52 @@ past-69 m commid room f bytes e = rw (e, le-ltb largestLength (length m) (short-
 
 -- ---- the answer and the buffer, of a known outcome
 
-pub answers-declined : (o : Outcome) (entry : List ℕ) (r : Refused) → o ≡ declined r → (barred r ≡ answerOf o) × (entry ≡ bufferAfter o entry)
-answers-declined o entry r e = (rw e, rw e)
+pub answers-refused : (o : WrapOutcome) (entry : List ℕ) (r : Refused) → o ≡ refused r → (refused r ≡ wrapAnswer o) × (entry ≡ afterWrapping o entry)
+answers-refused o entry r e = (rw e, rw e)
 
-pub answers-written : (o : Outcome) (t commid : ℕ) (body entry exit : List ℕ) (n : ℕ) → o ≡ written (frame t commid body) → n ≡ leastSize + length body
-    → exit ≡ putDown (frame t commid body) entry → (wrote n ≡ answerOf o) × (exit ≡ bufferAfter o entry)
+pub answers-written : (o : WrapOutcome) (t commid : ℕ) (body entry exit : List ℕ) (n : ℕ) → o ≡ written (frame t commid body) → n ≡ leastSize + length body
+    → exit ≡ putDown (frame t commid body) entry → (wrote n ≡ wrapAnswer o) × (exit ≡ afterWrapping o entry)
 answers-written o t commid body entry exit n e en ee =
     (ap wrote (en ∙ sym (frame-length t commid body)) ∙ rw e, ee ∙ rw e)
 
 -- ---- 69, and what a refusal leaves
 
-not-69 : (b : Bool) (frame : List ℕ) → cond b (declined (plainly 68)) (written frame) ≡ declined (plainly 69) → ⊥
+not-69 : (b : Bool) (frame : List ℕ) → cond b (refused (plainly 68)) (written frame) ≡ refused (plainly 69) → ⊥
 not-69 true frame e = let z : _≡_ {A = ℕ} 68 69 = cc in omega arith
 not-69 false frame e = let z : _≡_ {A = ℕ} 0 1 = cc in omega arith
 
 pub never-69 : Never69
 never-69 m commid room bytes = go (reading m) refl
   where
-    go : (a : Answer) → reading m ≡ a → wrapping m commid room ≡ declined (plainly 69) → ⊥
+    go : (a : Answer) → reading m ≡ a → wrapping m commid room ≡ refused (plainly 69) → ⊥
     go (refused r) e d = let x = sym (is-67 m commid room r e) ∙ d in let z : _≡_ {A = ℕ} 0 1 = cc in omega arith
     go (accepted f) e d = not-69 (ltb room (length (dataFrame commid m))) (dataFrame commid m) (sym (past-69 m commid room f bytes e) ∙ d)
 
 pub refusal-writes-nothing : RefusalWritesNothing
-refusal-writes-nothing (written frame) entry exit r n w e = let x : wrote (length frame) ≡ barred n = sym (w .0) ∙ e in cc
-refusal-writes-nothing (declined x) entry exit r n w e = w .1
+refusal-writes-nothing (written frame) entry exit r n w e = let x : wrote (length frame) ≡ refused n = sym (w .0) ∙ e in cc
+refusal-writes-nothing (refused x) entry exit r n w e = w .1
 
--- ---- the numbers that each can give
+-- ---- the refusals that each can give
 
-room-alone : (b : Bool) (frame : List ℕ) (r : Refused) → cond b (declined (plainly 68)) (written frame) ≡ declined r → numbersOf r .number ≡ 68
-room-alone true frame r e = let x : plainly 68 ≡ r = cc in ap (λ (y : Refused). numbersOf y .number) (sym x)
-room-alone false frame r e = cc
+abbrev Within : List ℕ → WrapOutcome → Type 0
+Within passing (written frame) = Unit
+Within passing (refused r) = Gives (68 ∷ []) passing r
+
+room-alone : (passing : List ℕ) (b : Bool) (frame : List ℕ) → Within passing (cond b (refused (plainly 68)) (written frame))
+room-alone passing true frame = refl
+room-alone passing false frame = tt
 
 pub acknowledge-gives : AcknowledgeGives
 unfolding acknowledging
 acknowledge-gives commid acknowledged room r e =
-    room-alone (ltb room (length (acknowledgmentFrame commid acknowledged))) (acknowledgmentFrame commid acknowledged) r e
+    let frame = acknowledgmentFrame commid acknowledged in
+    subst (Within []) e (room-alone [] (ltb room (length frame)) frame)
 
 pub wrap-gives : WrapGives
 wrap-gives m commid room r bytes = go (reading m) refl
   where
-    go : (a : Answer) → reading m ≡ a → wrapping m commid room ≡ declined r → (67 ≤ numbersOf r .number) × (numbersOf r .number ≤ 68)
-    go (refused x) e d =
-        let q : declined (passingOn 67 x) ≡ declined r = sym (is-67 m commid room x e) ∙ d in
-        let p : passingOn 67 x ≡ r = cc in
-        let n : 67 ≡ numbersOf r .number = ap (λ (y : Refused). numbersOf y .number) p in
-        (omega arith, omega arith)
+    go : (a : Answer) → reading m ≡ a → wrapping m commid room ≡ refused r → Gives (68 ∷ []) (67 ∷ []) r
+    go (fields.refused x) e d = subst (Within (67 ∷ [])) (sym (is-67 m commid room x e) ∙ d) refl
     go (accepted f) e d =
-        let n = room-alone (ltb room (length (dataFrame commid m))) (dataFrame commid m) r (sym (past-69 m commid room f bytes e) ∙ d) in
-        (omega arith, omega arith)
+        let frame = dataFrame commid m in
+        subst (Within (67 ∷ [])) (sym (past-69 m commid room f bytes e) ∙ d) (room-alone (67 ∷ []) (ltb room (length frame)) frame)

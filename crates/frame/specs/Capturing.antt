@@ -7,7 +7,7 @@ use mathlib.Core.Path.{_≡_}
 use lib.Dec.{ltb}
 use lib.ListN.{length, take, drop}
 use Rattle.frame.specs.Layout.{leastSize}
-use Rattle.frame.specs.Unwrapping.{dataLength, UnwrapAnswer, message, acknowledgment, declined, unwrapping}
+use Rattle.frame.specs.Unwrapping.{dataLength, UnwrapAnswer, message, acknowledgment, refused, unwrapping}
 
 abbrev pub smaller : ℕ → ℕ → ℕ
 smaller a b = cond (ltb a b) a b
@@ -24,7 +24,7 @@ MeasuresFirst s r = r ≡ firstSize s
 abbrev pub isFrame : UnwrapAnswer → Bool
 isFrame (message commid p f) = true
 isFrame (acknowledgment commid acknowledged) = true
-isFrame (declined r) = false
+isFrame (refused r) = false
 
 -- whatever comes behind it, a frame at the front is found as long as it is
 abbrev pub FirstIsTheFrame : Type 0

@@ -1,39 +1,21 @@
--- A refusal of a frame: its number alone, or its number with the refusal of reading, passed on whole. RULES 8.
--- 69 is in the definition of wrapping alone: no fault of the code has it, since it cannot occur.
-use Prim.Native.Nat.{ℕ}
-use mathlib.Core.Path.{_≡_}
-use Rattle.envelope.specs.Fields.{Refusal}
+-- What each refusal of a frame is on paper: its number, and for 67 the refusal of reading too, passed on whole. RULES 8.
+-- 69 is in the definition of wrapping alone: no refusal of the code has it, since it cannot occur.
+use Rattle.envelope.specs.Refusals.{Refused, plainly, passingOn, NumbersOf}
 use Rattle.envelope.specs.Told.{toldRefusal}
-use Rattle.frame.specs.declared.unwrapper.Numbers.{Numbers}
-use Rattle.frame.specs.declared.unwrapper.Fault.{Fault}
-use Rattle.frame.specs.declared.unwrapper.Fault.the-variants.{TooShort, NoStx, WrongVersion, OtherType, WrongLength, NoEtx, Unread, NoRoom}
+use Rattle.envelope.specs.declared.refusals.Numbers.{Numbers}
+use Rattle.frame.specs.declared.refusal.Refusal.{Refusal}
+use Rattle.frame.specs.declared.refusal.Refusal.the-variants.{TooShort, NoStx, WrongVersion, OtherType, WrongLength, NoEtx, MessageRefused, NoRoom}
 
-pub data Refused : Type 0 where
-  plainly : ℕ → Refused
-  passingOn : ℕ → Refusal → Refused
+abbrev pub toldFrameRefusal : Refusal → Refused
+toldFrameRefusal TooShort = plainly 61
+toldFrameRefusal NoStx = plainly 62
+toldFrameRefusal WrongVersion = plainly 63
+toldFrameRefusal OtherType = plainly 64
+toldFrameRefusal WrongLength = plainly 65
+toldFrameRefusal NoEtx = plainly 66
+toldFrameRefusal (MessageRefused r) = passingOn 67 (toldRefusal r)
+toldFrameRefusal NoRoom = plainly 68
 
-abbrev pub toldFrameFault : Fault → Refused
-toldFrameFault TooShort = plainly 61
-toldFrameFault NoStx = plainly 62
-toldFrameFault WrongVersion = plainly 63
-toldFrameFault OtherType = plainly 64
-toldFrameFault WrongLength = plainly 65
-toldFrameFault NoEtx = plainly 66
-toldFrameFault (Unread r) = passingOn 67 (toldRefusal r)
-toldFrameFault NoRoom = plainly 68
-
--- the numbers on paper: its own, and that of reading, or 0
-pub record RefusalNumbers : Type 0 where
-  pub number : ℕ
-  pub reading : ℕ
-
-abbrev pub numbersOf : Refused → RefusalNumbers
-numbersOf (plainly n) = record { number = n; reading = 0 }
-numbersOf (passingOn n r) = record { number = n; reading = r .number }
-
-abbrev pub toldNumbers : Numbers → RefusalNumbers
-toldNumbers n = record { number = n .number; reading = n .reading }
-
--- what `Fault::numbers` promises
-abbrev pub NumbersFault : Fault → Numbers → Type 0
-NumbersFault fault r = toldNumbers r ≡ numbersOf (toldFrameFault fault)
+-- what `Refusal::numbers` promises
+abbrev pub NumbersFrameRefusal : Refusal → Numbers → Type 0
+NumbersFrameRefusal refusal r = NumbersOf (toldFrameRefusal refusal) r

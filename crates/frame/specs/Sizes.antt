@@ -7,32 +7,32 @@ use lib.ListN.{length}
 use Rattle.envelope.specs.Layout.{largestMessage}
 use Rattle.envelope.specs.Promise.{Bytes}
 use Rattle.frame.specs.Layout.{leastSize, commidSize}
-use Rattle.frame.specs.Unwrapping.{UnwrapAnswer, message, acknowledgment, declined, unwrapping}
-use Rattle.frame.specs.Wrapping.{WrapAnswer, wrote, barred, answerOf, wrapping, acknowledging}
+use Rattle.frame.specs.Unwrapping.{UnwrapAnswer, message, acknowledgment, refused, unwrapping}
+use Rattle.frame.specs.Wrapping.{WrapAnswer, wrote, refused, wrapAnswer, wrapping, acknowledging}
 
 -- 0 where there is no message
 abbrev pub messageSize : UnwrapAnswer → ℕ
 messageSize (message commid p f) = p .size
 messageSize (acknowledgment commid acknowledged) = 0
-messageSize (declined r) = 0
+messageSize (refused r) = 0
 
 abbrev pub wroteLength : WrapAnswer → ℕ
 wroteLength (wrote n) = n
-wroteLength (barred r) = 0
+wroteLength (refused r) = 0
 
 -- the length told is that of the frame: 13 more than the message's, and 17
 abbrev pub WrapTellsItsLength : Type 0
 WrapTellsItsLength =
-    (m : List ℕ) (commid room n : ℕ) → Bytes m → answerOf (wrapping m commid room) ≡ wrote n → n ≡ leastSize + length m
+    (m : List ℕ) (commid room n : ℕ) → Bytes m → wrapAnswer (wrapping m commid room) ≡ wrote n → n ≡ leastSize + length m
 
 abbrev pub AcknowledgeTellsItsLength : Type 0
-AcknowledgeTellsItsLength = (commid acknowledged room n : ℕ) → answerOf (acknowledging commid acknowledged room) ≡ wrote n → n ≡ leastSize + commidSize
+AcknowledgeTellsItsLength = (commid acknowledged room n : ℕ) → wrapAnswer (acknowledging commid acknowledged room) ≡ wrote n → n ≡ leastSize + commidSize
 
 abbrev pub UnwrapsNoLonger : Type 0
 UnwrapsNoLonger = (s : List ℕ) → Bytes s → messageSize (unwrapping s) ≤ largestMessage
 
 abbrev pub WrapsNoLonger : Type 0
-WrapsNoLonger = (m : List ℕ) (commid room : ℕ) → Bytes m → wroteLength (answerOf (wrapping m commid room)) ≤ leastSize + largestMessage
+WrapsNoLonger = (m : List ℕ) (commid room : ℕ) → Bytes m → wroteLength (wrapAnswer (wrapping m commid room)) ≤ leastSize + largestMessage
 
 abbrev pub AcknowledgesNoLonger : Type 0
-AcknowledgesNoLonger = (commid acknowledged room : ℕ) → wroteLength (answerOf (acknowledging commid acknowledged room)) ≤ leastSize + largestMessage
+AcknowledgesNoLonger = (commid acknowledged room : ℕ) → wroteLength (wrapAnswer (acknowledging commid acknowledged room)) ≤ leastSize + largestMessage

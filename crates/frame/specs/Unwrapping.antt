@@ -1,19 +1,21 @@
 -- Unwrapping (K12: import): the rules 61 to 67 in their order, the first that applies is the answer; else the message or the acknowledgment. RULES 8.
 -- `s` is the list of the bytes lent.
-use Prim.Native.Nat.{ℕ, _+_, _≤_}
+use Prim.Native.Nat.{ℕ, _+_}
 use mathlib.Core.Bool.{Bool, cond, not, _&&_, _||_}
-use mathlib.Core.List.{List}
+use mathlib.Core.List.{List, [], _∷_}
 use mathlib.Core.Path.{_≡_}
 use lib.Dec.{eqb, ltb}
 use lib.ListN.{length}
-use Rattle.envelope.specs.Fields.{Span, Fields, Answer, accepted, refused, partOf}
+use Rattle.envelope.specs.Fields.{Span, Fields, Answer, accepted, partOf}
+use Rattle.envelope.specs.Fields as read
 use Rattle.envelope.specs.Numbers.{byteAt, fourAt}
 use Rattle.envelope.specs.Reading.{reading}
+use Rattle.envelope.specs.Refusals.{Refused, plainly, passingOn, Gives}
 use Rattle.envelope.specs.Told.{toldPart, toldEnvelope}
 use Rattle.frame.specs.Layout.{stx, etx, protocolVersion, messageVersion, dataType, acknowledgmentType, stxPlace, protocolVersionPlace, commidPlace, typePlace, messageVersionPlace, lengthPlace, bodyPlace, leastSize, commidSize}
-use Rattle.frame.specs.Refusal.{Refused, plainly, passingOn, toldFrameFault, numbersOf}
+use Rattle.frame.specs.Refusal.{toldFrameRefusal}
 use Rattle.frame.specs.declared.unwrapper.Unwrapped as code
-use Rattle.frame.specs.declared.unwrapper.Unwrapped.the-variants.{Data, Acknowledged, Refused as Declined}
+use Rattle.frame.specs.declared.unwrapper.Unwrapped.the-variants.{Data, Acknowledged, Refused as Refuses}
 
 -- ---- the fields
 
@@ -66,27 +68,27 @@ noEtx s = not (eqb (byteAt s (bodyPlace + dataLength s)) etx)
 pub data UnwrapAnswer : Type 0 where
   message : (commid : ℕ) → Span → Fields → UnwrapAnswer
   acknowledgment : (commid acknowledged : ℕ) → UnwrapAnswer
-  declined : Refused → UnwrapAnswer
+  refused : Refused → UnwrapAnswer
 
 -- 67, or the message
-abbrev pub afterReading : Answer → List ℕ → UnwrapAnswer
-afterReading (refused r) s = declined (passingOn 67 r)
-afterReading (accepted f) s = message (commidOf s) (bodySpan s) f
+abbrev pub unwrappingRead : Answer → List ℕ → UnwrapAnswer
+unwrappingRead (read.refused r) s = refused (passingOn 67 r)
+unwrappingRead (accepted f) s = message (commidOf s) (bodySpan s) f
 
 -- what a whole frame carries
 unfoldable pub carrying : List ℕ → ℕ → UnwrapAnswer
 carrying s messageType =
     cond (eqb messageType acknowledgmentType) (acknowledgment (commidOf s) (acknowledgedOf s))
-    (afterReading (reading (partOf s (bodySpan s))) s)
+    (unwrappingRead (reading (partOf s (bodySpan s))) s)
 
 unfoldable pub unwrapping : List ℕ → UnwrapAnswer
 unwrapping s =
-    cond (tooShort s) (declined (plainly 61))
-    (cond (noStx s) (declined (plainly 62))
-    (cond (wrongVersion (byteAt s protocolVersionPlace) (byteAt s messageVersionPlace)) (declined (plainly 63))
-    (cond (otherType (typeOf s)) (declined (plainly 64))
-    (cond (wrongLength (typeOf s) (dataLength s) (length s)) (declined (plainly 65))
-    (cond (noEtx s) (declined (plainly 66))
+    cond (tooShort s) (refused (plainly 61))
+    (cond (noStx s) (refused (plainly 62))
+    (cond (wrongVersion (byteAt s protocolVersionPlace) (byteAt s messageVersionPlace)) (refused (plainly 63))
+    (cond (otherType (typeOf s)) (refused (plainly 64))
+    (cond (wrongLength (typeOf s) (dataLength s) (length s)) (refused (plainly 65))
+    (cond (noEtx s) (refused (plainly 66))
     (carrying s (typeOf s)))))))
 
 -- ---- the code's answer, told in the paper's numbers
@@ -94,12 +96,12 @@ unwrapping s =
 abbrev pub toldUnwrapped : code.Unwrapped → UnwrapAnswer
 toldUnwrapped (Data d) = message (d .commid) (toldPart (d .message)) (toldEnvelope (d .envelope))
 toldUnwrapped (Acknowledged a) = acknowledgment (a .commid) (a .acknowledged)
-toldUnwrapped (Declined f) = declined (toldFrameFault f)
+toldUnwrapped (Refuses f) = refused (toldFrameRefusal f)
 
 -- what `unwrap` promises
 abbrev pub Unwraps : List ℕ → code.Unwrapped → Type 0
 Unwraps s r = toldUnwrapped r ≡ unwrapping s
 
--- which numbers unwrapping can give; proved in proofs/UnwrapLaws
+-- which refusals unwrapping can give; proved in proofs/UnwrapLaws
 abbrev pub UnwrapGives : Type 0
-UnwrapGives = (s : List ℕ) (r : Refused) → unwrapping s ≡ declined r → (61 ≤ numbersOf r .number) × (numbersOf r .number ≤ 67)
+UnwrapGives = (s : List ℕ) (r : Refused) → unwrapping s ≡ refused r → Gives (61 ∷ 62 ∷ 63 ∷ 64 ∷ 65 ∷ 66 ∷ []) (67 ∷ []) r

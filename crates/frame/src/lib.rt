@@ -2,14 +2,14 @@
 // Rests on the crate `envelope`, by its promises and the laws that it exports.
 pub mod capture;
 pub mod layout;
+pub mod refusal;
 pub mod unwrapper;
 pub mod wrapper;
 
 pub use crate::capture::first;
+pub use crate::refusal::Refusal;
 pub use crate::unwrapper::Acknowledgment;
 pub use crate::unwrapper::DataMessage;
-pub use crate::unwrapper::Fault;
-pub use crate::unwrapper::Numbers;
 pub use crate::unwrapper::Unwrapped;
 pub use crate::unwrapper::unwrap;
 pub use crate::wrapper::Wrapped;

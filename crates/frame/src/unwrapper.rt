@@ -6,33 +6,13 @@ ghost use lib.ListN.{length};
 ghost use Rattle.envelope.specs.Numbers.{fourAt};
 ghost use Rattle.frame.specs.Unwrapping.{dataLength, otherType, wrongVersion, wrongLength, carrying, toldUnwrapped, Unwraps};
 ghost use Rattle.frame.specs.Layout.{bodyPlace};
-ghost use Rattle.frame.specs.Refusal.{NumbersFault};
 use crate::layout;
+use crate::refusal::Refusal;
 use envelope::Envelope;
 use envelope::Part;
 use envelope::Reading;
-use envelope::Refusal;
 use envelope::numbers::four_bytes;
 use envelope::read;
-
-// The refusals of frames, in their order: six of unwrapping, EMP's own passed on whole, and want of room.
-// 69 has no case: an accepted message is shorter than the data length can state.
-pub enum Fault {
-    TooShort,
-    NoStx,
-    WrongVersion,
-    OtherType,
-    WrongLength,
-    NoEtx,
-    Unread(Refusal),
-    NoRoom,
-}
-
-// A refusal as the paper numbers it: its own number, and that of reading, or 0.
-pub struct Numbers {
-    pub number: u8,
-    pub reading: u8,
-}
 
 // A data message: the EMP message is a part of the frame's bytes; the envelope's own parts count from the message's first byte.
 pub struct DataMessage {
@@ -50,35 +30,35 @@ pub struct Acknowledgment {
 pub enum Unwrapped {
     Data(DataMessage),
     Acknowledged(Acknowledgment),
-    Refused(Fault),
+    Refused(Refusal),
 }
 
 pub fn unwrap(bytes: &[u8]) -> Unwrapped
     ensures { λ r. ⌜ Unwraps (now (bytes .entry)) r ⌝ }
 {
     if bytes.len() < layout::LEAST_SIZE {
-        return Unwrapped::Refused(Fault::TooShort);
+        return Unwrapped::Refused(Refusal::TooShort);
     }
     if bytes[layout::STX_PLACE] != layout::STX {
-        return Unwrapped::Refused(Fault::NoStx);
+        return Unwrapped::Refused(Refusal::NoStx);
     }
     if wrong_version(
         bytes[layout::PROTOCOL_VERSION_PLACE],
         bytes[layout::MESSAGE_VERSION_PLACE],
     ) {
-        return Unwrapped::Refused(Fault::WrongVersion);
+        return Unwrapped::Refused(Refusal::WrongVersion);
     }
     let message_type = bytes[layout::TYPE_PLACE];
     if other_type(message_type) {
-        return Unwrapped::Refused(Fault::OtherType);
+        return Unwrapped::Refused(Refusal::OtherType);
     }
     let size = four_at(bytes, layout::LENGTH_PLACE);
     if wrong_length(message_type, size, bytes.len()) {
-        return Unwrapped::Refused(Fault::WrongLength);
+        return Unwrapped::Refused(Refusal::WrongLength);
     }
     let end = layout::BODY_PLACE + size as usize;
     if bytes[end] != layout::ETX {
-        return Unwrapped::Refused(Fault::NoEtx);
+        return Unwrapped::Refused(Refusal::NoEtx);
     }
     carried_by(bytes, message_type, end)
 }
@@ -141,7 +121,7 @@ fn carried_by(bytes: &[u8], message_type: u8, end: usize) -> Unwrapped
                 envelope,
             })
         }
-        Reading::Refused(refusal) => Unwrapped::Refused(Fault::Unread(refusal)),
+        Reading::Refused(refusal) => Unwrapped::Refused(Refusal::MessageRefused(refusal)),
     }
 }
 
@@ -155,49 +135,4 @@ pub(crate) fn four_at(bytes: &[u8], place: usize) -> u32
         bytes[place + 2],
         bytes[place + 3],
     )
-}
-
-impl Fault {
-    // The numbers of the table of refusals.
-    pub fn numbers(self) -> Numbers
-        ensures { λ r. ⌜ NumbersFault self r ⌝ }
-    {
-        match self {
-            Fault::TooShort => Numbers {
-                number: 61,
-                reading: 0,
-            },
-            Fault::NoStx => Numbers {
-                number: 62,
-                reading: 0,
-            },
-            Fault::WrongVersion => Numbers {
-                number: 63,
-                reading: 0,
-            },
-            Fault::OtherType => Numbers {
-                number: 64,
-                reading: 0,
-            },
-            Fault::WrongLength => Numbers {
-                number: 65,
-                reading: 0,
-            },
-            Fault::NoEtx => Numbers {
-                number: 66,
-                reading: 0,
-            },
-            Fault::Unread(refusal) => {
-                let fault = refusal.fault;
-                Numbers {
-                    number: 67,
-                    reading: fault.number(),
-                }
-            }
-            Fault::NoRoom => Numbers {
-                number: 68,
-                reading: 0,
-            },
-        }
-    }
 }

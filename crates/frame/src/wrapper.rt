@@ -7,25 +7,25 @@ ghost use Rattle.frame.specs.Wrapping.{Wraps, Acknowledges, putDown};
 ghost use Rattle.frame.specs.Frames.{headerBytes, frame};
 ghost use Rattle.frame.specs.Layout.{leastSize, largestLength};
 use crate::layout;
-use crate::unwrapper::Fault;
+use crate::refusal::Refusal;
 use envelope::Reading;
 use envelope::numbers::four_digits;
 use envelope::read;
 
 pub enum Wrapped {
     Written(usize),
-    Refused(Fault),
+    Refused(Refusal),
 }
 
 pub fn wrap(message: &[u8], commid: u32, buffer: &mut [u8]) -> Wrapped
     ensures { λ r. ⌜ Wraps (now (message .entry)) commid (now (buffer .entry)) r (now (buffer .exit)) ⌝ }
 {
     match read(message) {
-        Reading::Refused(refusal) => Wrapped::Refused(Fault::Unread(refusal)),
+        Reading::Refused(refusal) => Wrapped::Refused(Refusal::MessageRefused(refusal)),
         Reading::Accepted(_) => {
             let size = layout::LEAST_SIZE + message.len();
             if buffer.len() < size {
-                return Wrapped::Refused(Fault::NoRoom);
+                return Wrapped::Refused(Refusal::NoRoom);
             }
             put_frame(layout::TYPE_DATA, commid, message, buffer);
             Wrapped::Written(size)
@@ -38,7 +38,7 @@ pub fn acknowledge(commid: u32, acknowledged: u32, buffer: &mut [u8]) -> Wrapped
     ensures { λ r. ⌜ Acknowledges commid acknowledged (now (buffer .entry)) r (now (buffer .exit)) ⌝ }
 {
     if buffer.len() < layout::ACKNOWLEDGMENT_SIZE {
-        return Wrapped::Refused(Fault::NoRoom);
+        return Wrapped::Refused(Refusal::NoRoom);
     }
     let body = four_digits(acknowledged);
     put_frame(layout::TYPE_ACKNOWLEDGMENT, commid, &body, buffer);

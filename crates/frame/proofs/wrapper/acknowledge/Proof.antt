@@ -1,6 +1,6 @@
 -- `wrapper::acknowledge`: want of room, or the frame.
 use Rattle.envelope.specs.Message.{inFour}
-use Rattle.frame.proofs.WrapLaws.{no-room, room-enough, answers-declined, answers-written}
+use Rattle.frame.proofs.WrapLaws.{no-room, room-enough, answers-refused, answers-written}
 use Rattle.frame.specs.Wrapping.{acknowledging}
 use Rattle.frame.specs.Wrapping.{putDown}
 use Rattle.frame.specs.Frames.{frame}
@@ -14,7 +14,7 @@ use Rattle.frame.proofs.wrapper.acknowledge.Tie as tie
 
 returns : tie.Need-returns
 unfolding acknowledging
-returns c = answers-declined _ _ _ (no-room acknowledgmentType _ (inFour (c .before .before .args .acknowledged)) _ (c .if1 .taken))
+returns c = answers-refused _ _ _ (no-room acknowledgmentType _ (inFour (c .before .before .args .acknowledged)) _ (c .if1 .taken))
 
 four-digits-requires : tie.Need-four-digits-requires
 four-digits-requires c κs = search needs

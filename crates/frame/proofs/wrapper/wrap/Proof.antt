@@ -1,7 +1,7 @@
 -- `wrapper::wrap`: 67, 68, or the frame put down; that 69 is past is a law of accepted messages.
 use Prim.Native.Nat.{_≤_}
 use Rattle.envelope.specs.Told.{told}
-use Rattle.frame.proofs.WrapLaws.{is-67, past-69, short-enough, no-room, room-enough, answers-declined, answers-written}
+use Rattle.frame.proofs.WrapLaws.{is-67, past-69, short-enough, no-room, room-enough, answers-refused, answers-written}
 use Rattle.frame.specs.Wrapping.{wrapping, fitting}
 use Rattle.frame.specs.Frames.{dataFrame}
 use Rattle.frame.specs.Layout.{dataType, largestLength}
@@ -32,13 +32,13 @@ add-size : tie.Need-add-size
 add-size c = search needs
 
 returns : tie.Need-returns
-returns c = answers-declined _ _ _ (past (c .before) ∙ no-room dataType _ (c .before .before .before .before .before .before .args .message .now) _ (c .if1 .taken))
+returns c = answers-refused _ _ _ (past (c .before) ∙ no-room dataType _ (c .before .before .before .before .before .before .args .message .now) _ (c .if1 .taken))
 
 put-frame-requires : tie.Need-put-frame-requires
 put-frame-requires c κs = let l = short (c .before .before) in (omega arith, l)
 
 returns-2 : tie.Need-returns-2
-returns-2 c = answers-declined _ _ _ (is-67 _ _ _ _ (sym (ap told (sym (c .before .refusal .given .1)) ∙ c .before .before .before .read .ensures)))
+returns-2 c = answers-refused _ _ _ (is-67 _ _ _ _ (sym (ap told (sym (c .before .refusal .given .1)) ∙ c .before .before .before .read .ensures)))
 
 same-length : tie.Need-same-length
 same-length c = search needs
