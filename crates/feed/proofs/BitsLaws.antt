@@ -13,7 +13,7 @@ use Rattle.feed.specs.Messages.{Fits, All, none, also}
 use Rattle.feed.specs.Stream.{foundBy, foundIn, Course, streaming}
 use Rattle.feed.specs.Told.{toldFeed}
 use Rattle.feed.specs.TwoBits.{FoundSomewhere, FeedTwoBits, FeedThreeBits}
-use Rattle.feed.specs.Verdict.{room, Verdict, more, complete, bad}
+use Rattle.feed.specs.Verdict.{room, Verdict, more, complete, refused}
 use Rattle.feed.proofs.FoundLaws.{all-append, found-are-accepted}
 use Rattle.feed.proofs.RunLaws.{Byte, repeats, goes-in, byte, streaming-nil, streaming-cons, as-defined}
 use Rattle.feed.proofs.SettlingLaws.{new-is-between}
@@ -35,7 +35,7 @@ bytes-zeros (suc n) (suc i) = bytes-zeros n i
 found-bytes : (v : Verdict) (k : List ℕ) (n : ℕ) → Bytes k → All Bytes (foundIn (closing v k n 1))
 found-bytes more k n b = none
 found-bytes (complete f) k n b = also (bytes-take n k b) none
-found-bytes (bad f) k n b = none
+found-bytes (refused f) k n b = none
 
 byte-found : (s : State) (x : ℕ) → x < 256 → Bytes (s .kept) → All Bytes (foundIn (byteIn s x)) × Bytes (byteIn s x .state .kept)
 byte-found s x h k = go (byte s x)

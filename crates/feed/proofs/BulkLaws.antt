@@ -12,9 +12,9 @@ use Rattle.envelope.specs.Announcing.{announces, announcing}
 use Rattle.envelope.specs.Fields.{Answer, accepted, refused as unread}
 use Rattle.envelope.specs.Layout.{headerSize}
 use Rattle.envelope.specs.Reading.{reading}
-use Rattle.feed.specs.Feeding.{Outcome, closing, furtherBy, nothing, taking}
+use Rattle.feed.specs.Feeding.{FeedOutcome, closing, furtherBy, nothing, taking}
 use Rattle.feed.specs.Helpers.{opened, outcomeAt, Expected, none, announced, Stretch, Announced}
-use Rattle.feed.specs.Verdict.{room, FeedFault, Verdict, more, bad, settled, verdict}
+use Rattle.feed.specs.Verdict.{room, FeedRefusal, Verdict, more, refused, settled, verdict}
 use Rattle.feed.proofs.TakingLaws.{onFrom, Known, up-to-heading, up-to-announced, up-to-one}
 use Rattle.feed.proofs.VerdictLaws.{verdict-more, verdict-whole, announcing-laid}
 
@@ -24,9 +24,9 @@ outcome-by : (k : List ℕ) (n used : ℕ) (rest : List ℕ) (v : Verdict) → v
     → outcomeAt k n used rest ≡ onFrom v k n used (taking (opened k n) rest)
 outcome-by k n used rest v e = ap (λ (u : Verdict). onFrom u k n used (taking (opened k n) rest)) e
 
-pub bad-at : (k : List ℕ) (n used : ℕ) (rest : List ℕ) (f : FeedFault) → verdict (take n k) ≡ bad f
-    → closing (bad f) k n used ≡ outcomeAt k n used rest
-bad-at k n used rest f e = sym (outcome-by k n used rest (bad f) e)
+pub bad-at : (k : List ℕ) (n used : ℕ) (rest : List ℕ) (f : FeedRefusal) → verdict (take n k) ≡ refused f
+    → closing (refused f) k n used ≡ outcomeAt k n used rest
+bad-at k n used rest f e = sym (outcome-by k n used rest (refused f) e)
 
 still-open : (k : List ℕ) (n used : ℕ) → onFrom more k n used (taking (opened k n) []) ≡ closing more k n used
 unfolding taking
@@ -37,7 +37,7 @@ pub more-at : (k : List ℕ) (n used : ℕ) (rest : List ℕ) → verdict (take 
 more-at k n used rest e r =
     sym (outcome-by k n used rest more e ∙ ap (λ (l : List ℕ). onFrom more k n used (taking (opened k n) l)) r ∙ still-open k n used)
 
-settled-closes : (a : Answer) (k : List ℕ) (n used : ℕ) (later : Outcome) → onFrom (settled a) k n used later ≡ closing (settled a) k n used
+settled-closes : (a : Answer) (k : List ℕ) (n used : ℕ) (later : FeedOutcome) → onFrom (settled a) k n used later ≡ closing (settled a) k n used
 settled-closes (accepted f) k n used later = refl
 settled-closes (unread r) k n used later = refl
 

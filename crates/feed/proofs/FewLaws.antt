@@ -9,9 +9,9 @@ use borrow.Author.Tests.{lt-ltb, ltb-true, ltb-false}
 use lib.Dec.{ltb}
 use lib.ListN.{length, take, set, length-set}
 use Rattle.envelope.specs.Layout.{headerSize}
-use Rattle.feed.specs.Feeding.{Stand, inside, whole, refused, State, begunBy, begun, Outcome, closing, findingBy, standBy, standing, still, furtherBy, taking, ending, endBy}
+use Rattle.feed.specs.Feeding.{Stand, inside, whole, refused, State, begunBy, begun, FeedOutcome, closing, findingBy, standBy, standing, still, furtherBy, taking, ending, endBy}
 use Rattle.feed.specs.Messages.{Roomy, foundSize, Few, UsesFew, EndFindsNoMessage}
-use Rattle.feed.specs.Verdict.{room, Verdict, more, complete, bad, verdict}
+use Rattle.feed.specs.Verdict.{room, Verdict, more, complete, refused, verdict}
 use Rattle.feed.proofs.LaidLaws.{in-length}
 use Rattle.feed.proofs.RefusedLaws.{Expects, expects}
 use Rattle.feed.proofs.RunLaws.{Byte, repeats, goes-in, byte}
@@ -26,7 +26,7 @@ more-is-short m v = go (ltb (length m) headerSize) refl
     go false q = let e : Expects m = expects m v (ltb-false (length m) headerSize q) in omega (arith, e .fits, e .missing)
 
 -- n bytes are in before it
-record Fewer (n : ℕ) (o : Outcome) : Type 0 where
+record Fewer (n : ℕ) (o : FeedOutcome) : Type 0 where
   used : n + o .used ≤ room
   size : foundSize (o .finding) ≤ room
 
@@ -35,15 +35,15 @@ still-size inside = refl
 still-size whole = refl
 still-size (refused f) = refl
 
-pub still-few : (s : State) (o : Outcome) → o ≡ still s → Few o
+pub still-few : (s : State) (o : FeedOutcome) → o ≡ still s → Few o
 still-few s o e = rw e (record { used = omega arith; size = omega (arith, still-size (s .stand)) })
 
 -- a byte that gave this verdict, and what follows where it settles nothing
-few-by : (v : Verdict) (k : List ℕ) (n : ℕ) (later : Outcome) → n < room → (v ≡ more → Fewer (suc n) later)
+few-by : (v : Verdict) (k : List ℕ) (n : ℕ) (later : FeedOutcome) → n < room → (v ≡ more → Fewer (suc n) later)
     → Fewer n (furtherBy (findingBy v (suc n)) (closing v k (suc n) 1) later)
 few-by more k n later h f = let r = f refl in record { used = omega (arith, r .used); size = r .size }
 few-by (complete g) k n later h f = record { used = omega arith; size = omega arith }
-few-by (bad g) k n later h f = record { used = omega arith; size = omega arith }
+few-by (refused g) k n later h f = record { used = omega arith; size = omega arith }
 
 -- where it settles nothing, one byte more is in
 one-more : (v : Verdict) (n : ℕ) → v ≡ more → suc n < room → begunBy (standBy v) (suc n) ≡ suc n

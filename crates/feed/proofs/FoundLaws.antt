@@ -9,11 +9,11 @@ use lib.Seq.{length-take-le}
 use Rattle.envelope.specs.Fields.{Fields, accepted}
 use Rattle.envelope.specs.Reading.{reading}
 use Rattle.envelope.specs.Told.{toldEnvelope}
-use Rattle.feed.specs.Feeding.{Stand, inside, whole, refused, State, begun, Finding, message, refusal, Outcome, closing, findingBy, standing, byteIn, furtherBy, taking, sizeBy}
+use Rattle.feed.specs.Feeding.{Stand, inside, whole, refused, State, begun, Finding, message, refused, FeedOutcome, closing, findingBy, standing, byteIn, furtherBy, taking, sizeBy}
 use Rattle.feed.specs.Messages.{All, none, also, AllFit, Roomy, FoundAreAccepted, FoundIsHeld}
 use Rattle.feed.specs.Stream.{foundBy, foundIn, Course, streaming}
 use Rattle.feed.specs.Told.{toldStanding, toldFeed, toldFound, toldTaken}
-use Rattle.feed.specs.Verdict.{room, FeedFault, Verdict, more, complete, bad, verdict}
+use Rattle.feed.specs.Verdict.{room, FeedRefusal, Verdict, more, complete, refused, verdict}
 use Rattle.feed.proofs.RunLaws.{Byte, repeats, goes-in, byte, streaming-nil, streaming-cons, as-defined}
 use Rattle.feed.proofs.StandLaws.{begun-room, refused-takes}
 use Rattle.feed.proofs.TakingLaws.{taking-nil, taking-cons}
@@ -30,7 +30,7 @@ found-fits : (v : Verdict) (k : List ℕ) (n : ℕ) → verdict (take n k) ≡ v
 found-fits more k n e h b = none
 found-fits (complete f) k n e h b =
     also (record { fields = f; accepts = complete-accepts (take n k) f e; short = omega (arith, length-take-le n k b) }) none
-found-fits (bad f) k n e h b = none
+found-fits (refused f) k n e h b = none
 
 byte-found : (s : State) (x : ℕ) → Roomy s → AllFit (foundIn (byteIn s x)) × Roomy (byteIn s x .state)
 byte-found s x r = go (byte s x)
@@ -61,13 +61,13 @@ found-are-accepted f bytes c r calls =
 
 -- ---- a message that a call found is held, with its fields
 
-record Kept (o : Outcome) (n : ℕ) (f : Fields) : Type 0 where
+record Kept (o : FeedOutcome) (n : ℕ) (f : Fields) : Type 0 where
   stand : o .state .stand ≡ whole
   count : o .state .count ≡ n
   accepts : reading (take n (o .state .kept)) ≡ accepted f
   size : length (take n (o .state .kept)) ≡ n
 
-message-not-refusal : (f : FeedFault) (n : ℕ) (g : Fields) → refusal f ≡ message n g → ⊥
+message-not-refusal : (f : FeedRefusal) (n : ℕ) (g : Fields) → refused f ≡ message n g → ⊥
 message-not-refusal f n g e = let z : _≡_ {A = ℕ} 0 1 = cc in omega arith
 
 still-no-message : (t : Stand) (n : ℕ) (f : Fields) → standing t ≡ message n f → ⊥
@@ -75,7 +75,7 @@ still-no-message inside n f e = message-not-nothing n f (sym e)
 still-no-message whole n f e = message-not-nothing n f (sym e)
 still-no-message (refused g) n f e = message-not-refusal g n f e
 
-kept-by : (v : Verdict) (k : List ℕ) (m n : ℕ) (f : Fields) (later : Outcome) → verdict (take m k) ≡ v → m ≤ length k
+kept-by : (v : Verdict) (k : List ℕ) (m n : ℕ) (f : Fields) (later : FeedOutcome) → verdict (take m k) ≡ v → m ≤ length k
     → (later .finding ≡ message n f → Kept later n f)
     → furtherBy (findingBy v m) (closing v k m 1) later .finding ≡ message n f → Kept (furtherBy (findingBy v m) (closing v k m 1) later) n f
 kept-by more k m n f later v b h e =
@@ -90,10 +90,10 @@ kept-by (complete g) k m n f later v b h e =
       accepts = rw (← sizes) (complete-accepts (take m k) f (v ∙ ap complete fields));
       size = rw (← sizes) (length-take-le m k b);
     }
-kept-by (bad g) k m n f later v b h e = absurd (message-not-refusal g n f e)
+kept-by (refused g) k m n f later v b h e = absurd (message-not-refusal g n f e)
 
 message-kept : (piece : List ℕ) (s : State) (n : ℕ) (f : Fields) → Roomy s → taking s piece .finding ≡ message n f → Kept (taking s piece) n f
-message-kept [] s n f r e = absurd (still-no-message (s .stand) n f (ap (λ (o : Outcome). o .finding) (sym (taking-nil s)) ∙ e))
+message-kept [] s n f r e = absurd (still-no-message (s .stand) n f (ap (λ (o : FeedOutcome). o .finding) (sym (taking-nil s)) ∙ e))
 message-kept (x ∷ l) s n f r e = go (λ t q h. message-kept l t n f q h) (byte s x)
   where
     small : begun s < room
@@ -103,16 +103,16 @@ message-kept (x ∷ l) s n f r e = go (λ t q h. message-kept l t n f q h) (byte
     same = length-set (s .kept) (begun s) x ∙ r
 
     go : ((t : State) → Roomy t → taking t l .finding ≡ message n f → Kept (taking t l) n f) → Byte s x → Kept (taking s (x ∷ l)) n f
-    go later (repeats g q b) = absurd (still-no-message (s .stand) n f (ap (λ (o : Outcome). o .finding) (refused-takes s g (x ∷ l) q) ∙ e))
+    go later (repeats g q b) = absurd (still-no-message (s .stand) n f (ap (λ (o : FeedOutcome). o .finding) (refused-takes s g (x ∷ l) q) ∙ e))
     go later (goes-in v q b o) =
         let eq = taking-cons s x l _ b in
-        rw eq (kept-by v _ _ n f _ q (omega (arith, small, same)) (later _ same) (ap (λ (p : Outcome). p .finding) (sym eq) ∙ e))
+        rw eq (kept-by v _ _ n f _ q (omega (arith, small, same)) (later _ same) (ap (λ (p : FeedOutcome). p .finding) (sym eq) ∙ e))
 
 pub found-is-held : FoundIsHeld
 found-is-held f piece t n e m r p found h =
     let finding : toldTaken t .finding ≡ message n (toldEnvelope e) = ap toldFound found in
     let k : Kept (toldTaken t) n (toldEnvelope e) =
-    subst (λ (o : Outcome). Kept o n (toldEnvelope e)) (sym p) (message-kept piece (toldFeed f) n (toldEnvelope e) r (ap (λ (o : Outcome). o .finding) (sym p) ∙ finding)) in
+    subst (λ (o : FeedOutcome). Kept o n (toldEnvelope e)) (sym p) (message-kept piece (toldFeed f) n (toldEnvelope e) r (ap (λ (o : FeedOutcome). o .finding) (sym p) ∙ finding)) in
     let size : sizeBy (toldStanding (t .feed .standing)) (t .feed .count) ≡ n = ap (λ (s : Stand). sizeBy s (t .feed .count)) (k .stand) ∙ k .count in
     let same : take n (t .feed .kept) ≡ m = sym (h ∙ ap (λ (j : ℕ). take j (t .feed .kept)) size) in (
       ap (λ (g : Finding). foundBy g (t .feed .kept)) finding ∙ ap (λ (x : List ℕ). x ∷ []) same,

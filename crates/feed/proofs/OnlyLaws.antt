@@ -5,27 +5,27 @@ use mathlib.Core.Path.{_≡_, refl, ap, sym, _∙_}
 use Prim.Native.Nat.{ℕ}
 use Rattle.envelope.proofs.OnlyLaws.{only-by-telling, untoldRefusal, untold-refusal, untoldEnvelope, untold-envelope}
 use Rattle.envelope.specs.Promise.{Only₁, Only₂}
-use Rattle.feed.specs.Feeding.{Stand, inside, whole, refused, State, fresh, Finding, nothing, message, refusal, Outcome, taking, ending}
-use Rattle.feed.specs.Told.{toldFault, toldStanding, toldFeed, toldFound, toldStep, toldTaken, toldEnded, NumbersFault, Fresh, Takes, Ends, Advances, Closes, Holds}
-use Rattle.feed.specs.Verdict.{FeedFault, reads, tooLong, cut}
-use Rattle.feed.specs.declared.fault.Fault.{Fault}
-use Rattle.feed.specs.declared.fault.Fault.the-variants.{Unread, TooLong, Cut}
+use Rattle.feed.specs.Feeding.{Stand, inside, whole, refused, State, fresh, Finding, nothing, message, refused, FeedOutcome, taking, ending}
+use Rattle.feed.specs.Told.{toldFeedRefusal, toldStanding, toldFeed, toldFound, toldStep, toldTaken, toldEnded, NumbersFeedRefusal, Fresh, Takes, Ends, Advances, Closes, Holds}
+use Rattle.feed.specs.Verdict.{FeedRefusal, reads, tooLong, cut}
+use Rattle.feed.specs.declared.refusal.Refusal.{Refusal as CodeRefusal}
+use Rattle.feed.specs.declared.refusal.Refusal.the-variants.{MessageRefused, TooLong, Cut}
 use Rattle.feed.specs.declared.feeder.Ended.{Ended}
 use Rattle.feed.specs.declared.feeder.Feed.{Feed}
 use Rattle.feed.specs.declared.feeder.Taken.{Taken}
 use Rattle.feed.specs.declared.step.Found.{Found}
-use Rattle.feed.specs.declared.step.Found.the-variants.{Nothing, Message, Refused as Barred}
+use Rattle.feed.specs.declared.step.Found.the-variants.{Nothing, Message, Refused as FoundRefused}
 use Rattle.feed.specs.declared.step.Standing.{Standing}
 use Rattle.feed.specs.declared.step.Standing.the-variants.{Inside, Whole, Refused}
 use Rattle.feed.specs.declared.step.Step.{Step}
 
-abbrev untoldFeedFault : FeedFault → Fault
-untoldFeedFault (reads r) = Unread (untoldRefusal r)
+abbrev untoldFeedFault : FeedRefusal → CodeRefusal
+untoldFeedFault (reads r) = MessageRefused (untoldRefusal r)
 untoldFeedFault tooLong = TooLong
 untoldFeedFault cut = Cut
 
-pub untold-feed-fault : (f : Fault) → untoldFeedFault (toldFault f) ≡ f
-untold-feed-fault (Unread r) = ap Unread (untold-refusal r)
+pub untold-feed-fault : (f : CodeRefusal) → untoldFeedFault (toldFeedRefusal f) ≡ f
+untold-feed-fault (MessageRefused r) = ap MessageRefused (untold-refusal r)
 untold-feed-fault TooLong = refl
 untold-feed-fault Cut = refl
 
@@ -48,20 +48,20 @@ untold-feed f = λ i. record { kept = f .kept; count = f .count; standing = unto
 abbrev pub untoldFound : Finding → Found
 untoldFound nothing = Nothing
 untoldFound (message n f) = Message n (untoldEnvelope f)
-untoldFound (refusal f) = Barred (untoldFeedFault f)
+untoldFound (refused f) = FoundRefused (untoldFeedFault f)
 
 pub untold-found : (f : Found) → untoldFound (toldFound f) ≡ f
 untold-found Nothing = refl
 untold-found (Message n e) = ap (Message n) (untold-envelope e)
-untold-found (Barred f) = ap Barred (untold-feed-fault f)
+untold-found (FoundRefused f) = ap FoundRefused (untold-feed-fault f)
 
-abbrev untoldTaken : Outcome → Taken
+abbrev untoldTaken : FeedOutcome → Taken
 untoldTaken o = record { feed = untoldFeed (o .state); used = o .used; found = untoldFound (o .finding) }
 
 untold-taken : (t : Taken) → untoldTaken (toldTaken t) ≡ t
 untold-taken t = λ i. record { feed = untold-feed (t .feed) i; used = t .used; found = untold-found (t .found) i }
 
-abbrev untoldEnded : Outcome → Ended
+abbrev untoldEnded : FeedOutcome → Ended
 untoldEnded o = record { feed = untoldFeed (o .state); found = untoldFound (o .finding) }
 
 untold-ended : (e : Ended) → untoldEnded (toldEnded e) ≡ e
@@ -82,11 +82,11 @@ only-ends f = only-by-telling toldEnded untoldEnded untold-ended (ending (toldFe
 pub only-holds : (kept : List ℕ) (count : ℕ) (standing : Standing) → Only₁ (Holds kept count standing)
 only-holds kept count standing a b p q = p ∙ sym q
 
-pub only-numbers-fault : (f : Fault) → Only₁ (NumbersFault f)
-only-numbers-fault f a b p q = p ∙ sym q
+pub only-numbers-feed-refusal : (f : CodeRefusal) → Only₁ (NumbersFeedRefusal f)
+only-numbers-feed-refusal f a b p q = p ∙ sym q
 
 -- `advance`: the answer and the bytes lent
-abbrev untoldStep : Outcome → Step
+abbrev untoldStep : FeedOutcome → Step
 untoldStep o = record { count = o .state .count; standing = untoldStanding (o .state .stand); used = o .used; found = untoldFound (o .finding) }
 
 untold-step : (r : Step) (kept : List ℕ) → untoldStep (toldStep r kept) ≡ r
@@ -95,7 +95,7 @@ untold-step r kept = λ i. record { count = r .count; standing = untold-standing
 pub only-advances : (entry : List ℕ) (count : ℕ) (standing : Standing) (piece : List ℕ) → Only₂ (Advances entry count standing piece)
 only-advances entry count standing piece a b x y p q =
     let e = p ∙ sym q in
-    (sym (untold-step a x) ∙ ap untoldStep e ∙ untold-step b y, ap (λ (o : Outcome). o .state .kept) e)
+    (sym (untold-step a x) ∙ ap untoldStep e ∙ untold-step b y, ap (λ (o : FeedOutcome). o .state .kept) e)
 
 -- `close`: the bytes kept may be any, so none do
 pub only-closes : (count : ℕ) (standing : Standing) → Only₁ (Closes count standing)

@@ -14,11 +14,11 @@ use Rattle.envelope.proofs.ReadingLaws.{Completed, accepts-it, refuses-6, refus
 use Rattle.envelope.specs.Announcing.{AnnouncementAnswer, unfinished, refused as refusedHeading, announces, announcing}
 use Rattle.envelope.specs.Layout.{headerSize}
 use Rattle.envelope.specs.Reading.{reading}
-use Rattle.feed.specs.Feeding.{inside, whole, refused, State, fresh, begun, closing, byteIn}
+use Rattle.feed.specs.Feeding.{Stand, inside, whole, refused, State, fresh, begun, closing, byteIn}
 use Rattle.feed.specs.Messages.{Roomy, HeadingNumber, is-2, is-3, is-4, is-51, WholeNumber, is-6, is-7, Settles, at-17, at-announced, WhereRefused}
 use Rattle.feed.specs.Stream.{Course, streaming}
-use Rattle.feed.specs.Told.{toldFault, toldStanding, toldFeed}
-use Rattle.feed.specs.Verdict.{room, FeedFault, reads, tooLong, numberOf, Verdict, more, complete, bad, settled, verdict}
+use Rattle.feed.specs.Told.{toldFeedRefusal, toldStanding, toldFeed}
+use Rattle.feed.specs.Verdict.{room, FeedRefusal, reads, tooLong, numberOf, Verdict, more, complete, refused, settled, verdict}
 use Rattle.feed.proofs.LaidLaws.{in-length}
 use Rattle.feed.proofs.RunLaws.{Byte, repeats, goes-in, byte, streaming-nil, streaming-cons, as-defined}
 use Rattle.feed.proofs.StandLaws.{begun-room}
@@ -52,7 +52,7 @@ heading-number n (announced.as-2 e) = is-2 e
 heading-number n (announced.as-3 e) = is-3 e
 heading-number n (announced.as-4 e) = is-4 e
 
-bad-heading : (m : List ℕ) (f : FeedFault) → verdict m ≡ bad f → length m ≡ headerSize → HeadingNumber (numberOf f)
+bad-heading : (m : List ℕ) (f : FeedRefusal) → verdict m ≡ refused f → length m ≡ headerSize → HeadingNumber (numberOf f)
 bad-heading m f v h = go (announcing m) refl
   where
     by : (w : ℕ) → announcing m ≡ announces w → Weighed m w → HeadingNumber (numberOf f)
@@ -66,7 +66,7 @@ bad-heading m f v h = go (announcing m) refl
         rw (same-fault f (reads r) (sym v ∙ verdict-by m (refusedHeading r) e)) (heading-number (r .number) (announced.refused-number m r e))
     go (announces w) e = by w e (weigh m w e)
 
-bad-whole : (m : List ℕ) (f : FeedFault) → verdict m ≡ bad f → length m ≤ room → announcing m ≡ announces (length m) → WholeNumber (numberOf f)
+bad-whole : (m : List ℕ) (f : FeedRefusal) → verdict m ≡ refused f → length m ≤ room → announcing m ≡ announces (length m) → WholeNumber (numberOf f)
 bad-whole m f v h a = go (announced.announced-completed m a)
   where
     at : verdict m ≡ settled (reading m)
@@ -78,8 +78,8 @@ bad-whole m f v h a = go (announced.announced-completed m a)
     go (refuses-7 e) = is-7 (ap numberOf (same-fault f _ (sym v ∙ at ∙ ap settled e)))
 
 -- the byte that brought a refusal, where nothing was settled before it
-settles-at : (k : List ℕ) (n x : ℕ) (f : FeedFault) → length k ≡ room → n < room → (0 < n → verdict (take n k) ≡ more)
-    → verdict (take (suc n) (set k n x)) ≡ bad f → Settles (take (suc n) (set k n x)) (numberOf f)
+settles-at : (k : List ℕ) (n x : ℕ) (f : FeedRefusal) → length k ≡ room → n < room → (0 < n → verdict (take n k) ≡ more)
+    → verdict (take (suc n) (set k n x)) ≡ refused f → Settles (take (suc n) (set k n x)) (numberOf f)
 settles-at k n x f hk h quiet v = go (ltb n headerSize) refl (ltb (suc n) headerSize) refl
   where
     size : length (take (suc n) (set k n x)) ≡ suc n
@@ -112,26 +112,26 @@ settles-at k n x f hk h quiet v = go (ltb n headerSize) refl (ltb (suc n) header
 record Sound (s : State) : Type 0 where
   roomy : Roomy s
   quiet : 0 < begun s → verdict (take (begun s) (s .kept)) ≡ more
-  told : (f : FeedFault) → s .stand ≡ refused f → Settles (take (s .count) (s .kept)) (numberOf f)
+  told : (f : FeedRefusal) → s .stand ≡ refused f → Settles (take (s .count) (s .kept)) (numberOf f)
 
-inside-not-refused : (f : FeedFault) → inside ≡ refused f → ⊥
+inside-not-refused : (f : FeedRefusal) → inside ≡ refused f → ⊥
 inside-not-refused f e = let z : _≡_ {A = ℕ} 0 1 = cc in omega arith
 
-pub whole-not-refused : (f : FeedFault) → whole ≡ refused f → ⊥
+pub whole-not-refused : (f : FeedRefusal) → whole ≡ refused f → ⊥
 whole-not-refused f e = let z : _≡_ {A = ℕ} 0 1 = cc in omega arith
 
-same-refused : (f g : FeedFault) → refused f ≡ refused g → f ≡ g
+same-refused : (f g : FeedRefusal) → _≡_ {A = Stand} (refused f) (refused g) → f ≡ g
 same-refused f g e = cc
 
 sound-after : (v : Verdict) (k : List ℕ) (n : ℕ) → verdict (take n k) ≡ v → length k ≡ room
-    → ((f : FeedFault) → v ≡ bad f → Settles (take n k) (numberOf f)) → Sound (closing v k n 1 .state)
+    → ((f : FeedRefusal) → v ≡ refused f → Settles (take n k) (numberOf f)) → Sound (closing v k n 1 .state)
 sound-after more k n e r s = record { roomy = r; quiet = go (ltb n room) refl; told = λ f q. absurd (inside-not-refused f q) }
   where
     go : (b : Bool) → ltb n room ≡ b → 0 < cond (ltb n room) n 0 → verdict (take (cond (ltb n room) n 0) k) ≡ more
     go true q = rw q (λ h. e)
     go false q = rw q (λ h. absurd (omega arith))
 sound-after (complete f) k n e r s = record { roomy = r; quiet = λ h. absurd (omega arith); told = λ g q. absurd (whole-not-refused g q) }
-sound-after (bad f) k n e r s = record { roomy = r; quiet = λ h. absurd (omega arith); told = λ g q. rw (← same-refused f g q) (s f refl) }
+sound-after (refused f) k n e r s = record { roomy = r; quiet = λ h. absurd (omega arith); told = λ g q. rw (← same-refused f g q) (s f refl) }
 
 sound-byte : (s : State) (x : ℕ) → Sound s → Sound (byteIn s x .state)
 sound-byte s x w = go (byte s x)
@@ -155,4 +155,4 @@ fresh-sound s e =
 pub where-refused : WhereRefused
 where-refused f bytes c fault n calls e =
     let w = subst Sound (sym (ap (λ (x : Course). x .state) (as-defined f bytes c calls))) (sound-stream bytes (toldFeed f) (fresh-sound (toldFeed f) n)) in
-    w .told (toldFault fault) (ap toldStanding e)
+    w .told (toldFeedRefusal fault) (ap toldStanding e)

@@ -6,10 +6,10 @@ use Prim.Native.Nat.{ℕ, suc, _+_}
 use native.Mathlib.Omega.{arith}
 use lib.ListN.{take, drop, set}
 use Rattle.feed.specs.Cutting.{Came, over, stopped, call, toldCame, CutAnywhere, EndAnywhere, AsDefined, AdvanceIsTake, CloseIsEnd}
-use Rattle.feed.specs.Feeding.{Stand, inside, whole, refused, State, begun, nothing, Outcome, closing, findingBy, standing, still, byteIn, furtherBy, taking}
+use Rattle.feed.specs.Feeding.{Stand, inside, whole, refused, State, begun, nothing, FeedOutcome, closing, findingBy, standing, still, byteIn, furtherBy, taking}
 use Rattle.feed.specs.Stream.{foundBy, foundIn, Course, noBytes, onward, streaming}
-use Rattle.feed.specs.Told.{toldFault, toldStanding, toldFeed, toldTaken}
-use Rattle.feed.specs.Verdict.{FeedFault, Verdict, more, complete, bad, verdict}
+use Rattle.feed.specs.Told.{toldFeedRefusal, toldStanding, toldFeed, toldTaken}
+use Rattle.feed.specs.Verdict.{FeedRefusal, Verdict, more, complete, refused, verdict}
 use Rattle.feed.proofs.OnlyLaws.{untoldFeed, untold-feed, only-ends}
 use Rattle.feed.proofs.StandLaws.{refused-byte, refused-takes, byte-goes-in, goes-on, anew, end-uses-none}
 use Rattle.feed.proofs.TakingLaws.{taking-nil, taking-cons}
@@ -20,13 +20,13 @@ pub streaming-nil : (s : State) → streaming s [] ≡ noBytes s
 unfolding streaming
 streaming-nil s = refl
 
-pub streaming-cons : (s : State) (x : ℕ) (l : List ℕ) (o : Outcome) → byteIn s x ≡ o → streaming s (x ∷ l) ≡ onward o (streaming (o .state) l)
+pub streaming-cons : (s : State) (x : ℕ) (l : List ℕ) (o : FeedOutcome) → byteIn s x ≡ o → streaming s (x ∷ l) ≡ onward o (streaming (o .state) l)
 unfolding streaming
-streaming-cons s x l o e = ap (λ (p : Outcome). onward p (streaming (p .state) l)) e
+streaming-cons s x l o e = ap (λ (p : FeedOutcome). onward p (streaming (p .state) l)) e
 
 -- what a byte does: a refusal that stands is repeated, or the byte goes in and gives a verdict
 pub data Byte (s : State) (x : ℕ) : Type 0 where
-  repeats : (f : FeedFault) → s .stand ≡ refused f → byteIn s x ≡ still s → Byte s x
+  repeats : (f : FeedRefusal) → s .stand ≡ refused f → byteIn s x ≡ still s → Byte s x
   goes-in : (v : Verdict) → verdict (take (suc (begun s)) (set (s .kept) (begun s) x)) ≡ v
       → byteIn s x ≡ closing v (set (s .kept) (begun s) x) (suc (begun s)) 1 → standing (s .stand) ≡ nothing → Byte s x
 
@@ -49,7 +49,7 @@ still-first s c =
     let none : c .used ≡ 0 + c .used = omega arith in λ i.
     record { found = sym (still-finds (s .stand) (s .kept)) i ++ c .found; used = none i; state = c .state }
 
-pub refused-stream : (bytes : List ℕ) (s : State) (f : FeedFault) → s .stand ≡ refused f → streaming s bytes ≡ noBytes s
+pub refused-stream : (bytes : List ℕ) (s : State) (f : FeedRefusal) → s .stand ≡ refused f → streaming s bytes ≡ noBytes s
 refused-stream [] s f e = streaming-nil s
 refused-stream (x ∷ l) s f e = streaming-cons s x l _ (refused-byte s f x e) ∙ sym (still-first s (streaming s l)) ∙ refused-stream l s f e
 
@@ -61,7 +61,7 @@ followed a b = record { found = a .found ++ b .found; used = a .used + b .used; 
 none-followed : (s : State) (c : Course) → c ≡ followed (noBytes s) c
 none-followed s c = let none : c .used ≡ 0 + c .used = omega arith in λ i. record { found = c .found; used = none i; state = c .state }
 
-onward-followed : (o : Outcome) (a b : Course) → onward o (followed a b) ≡ followed (onward o a) b
+onward-followed : (o : FeedOutcome) (a b : Course) → onward o (followed a b) ≡ followed (onward o a) b
 onward-followed o a b =
     let sum : o .used + (a .used + b .used) ≡ o .used + a .used + b .used = omega arith in λ i.
     record { found = sym (append-assoc (foundIn o) (a .found) (b .found)) i; used = sum i; state = b .state }
@@ -78,10 +78,10 @@ in-parts s (x ∷ a) b =
 
 -- ---- a call takes the front off
 
-abbrev Front : State → List ℕ → Outcome → Type 0
+abbrev Front : State → List ℕ → FeedOutcome → Type 0
 Front s l o = streaming s l ≡ onward o (streaming (o .state) (drop (o .used) l))
 
-onward-onward : (k : List ℕ) (n : ℕ) (o : Outcome) (c : Course)
+onward-onward : (k : List ℕ) (n : ℕ) (o : FeedOutcome) (c : Course)
     → onward (closing more k n 1) (onward o c) ≡ onward (furtherBy nothing (closing more k n 1) o) c
 onward-onward k n o c =
     let sum : 1 + (o .used + c .used) ≡ 1 + o .used + c .used = omega arith in λ i.
@@ -98,7 +98,7 @@ front-byte more s x l k n e h =
     ∙ onward-onward k n later (streaming (later .state) (drop (later .used) l))
     ∙ ap (λ (m : ℕ). onward (furtherBy nothing (closing more k n 1) later) (streaming (later .state) (drop m (x ∷ l)))) one
 front-byte (complete f) s x l k n e h = streaming-cons s x l _ e
-front-byte (bad f) s x l k n e h = streaming-cons s x l _ e
+front-byte (refused f) s x l k n e h = streaming-cons s x l _ e
 
 pub front : (l : List ℕ) (s : State) → Front s l (taking s l)
 front [] s = rw (taking-nil s) (still-first s (streaming s []))
@@ -111,7 +111,7 @@ front (x ∷ l) s = go (λ t. front l t) (byte s x)
 -- ---- any run of calls
 
 -- one call, and the rest of the stream
-front-and-rest : (s : State) (piece rest : List ℕ) (o : Outcome) → o ≡ taking s piece
+front-and-rest : (s : State) (piece rest : List ℕ) (o : FeedOutcome) → o ≡ taking s piece
     → onward o (streaming (o .state) (drop (o .used) piece ++ rest)) ≡ streaming s (piece ++ rest)
 front-and-rest s piece rest o e =
     let left = drop (o .used) piece in
@@ -124,7 +124,7 @@ front-and-rest s piece rest o e =
 
 pub as-defined : AsDefined
 as-defined f bytes c over = sym (streaming-nil (toldFeed f))
-as-defined f bytes c (stopped fault e) = sym (refused-stream bytes (toldFeed f) (toldFault fault) (ap toldStanding e))
+as-defined f bytes c (stopped fault e) = sym (refused-stream bytes (toldFeed f) (toldFeedRefusal fault) (ap toldStanding e))
 as-defined f bytes c (call piece rest t e p more-calls) =
     ap (onward (toldTaken t)) (as-defined (t .feed) (drop (t .used) piece ++ rest) _ more-calls)
     ∙ front-and-rest (toldFeed f) piece rest (toldTaken t) p

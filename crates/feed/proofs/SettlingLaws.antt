@@ -14,12 +14,12 @@ use Rattle.envelope.specs.Announcing.{announces, announcing}
 use Rattle.envelope.specs.Layout.{headerSize}
 use Rattle.envelope.specs.Told.{toldEnvelope}
 use Rattle.feed.specs.Cutting.{Came, Calls}
-use Rattle.feed.specs.Feeding.{whole, State, fresh, begun, nothing, Outcome, findingBy, closing, standing, byteIn, furtherBy, taking}
+use Rattle.feed.specs.Feeding.{whole, State, fresh, begun, nothing, FeedOutcome, findingBy, closing, standing, byteIn, furtherBy, taking}
 use Rattle.feed.specs.Helpers.{opened}
 use Rattle.feed.specs.Messages.{FoundInOnePiece, Fits, AllFit, none, also, joined, Between, NewIsBetween, AllAreFound, Silent, FoundAtItsLastByte, RefusedWith, RefusedInOnePiece, OfThe17th, RefusedAtThe17th, Complete, RefusedWhenComplete}
 use Rattle.feed.specs.Stream.{foundIn, Course, noBytes, onward, streaming}
-use Rattle.feed.specs.Told.{toldFault, toldFeed}
-use Rattle.feed.specs.Verdict.{room, FeedFault, Verdict, more, complete, bad, settled, verdict}
+use Rattle.feed.specs.Told.{toldFeedRefusal, toldFeed}
+use Rattle.feed.specs.Verdict.{room, FeedRefusal, Verdict, more, complete, refused, settled, verdict}
 use Rattle.feed.specs.declared.feeder.Feed.{Feed}
 use Rattle.feed.proofs.LaidLaws.{in-length, laid-front}
 use Rattle.feed.proofs.RunLaws.{Byte, repeats, goes-in, byte, streaming-nil, streaming-cons, refused-stream, followed, front, as-defined}
@@ -95,7 +95,7 @@ waits (x ∷ p) k n q hk h some s =
 
 -- what a call then finds, whatever follows
 abbrev Final : Verdict → Type 0
-Final v = (k : List ℕ) (n used : ℕ) (later : Outcome) → furtherBy (findingBy v n) (closing v k n used) later ≡ closing v k n used
+Final v = (k : List ℕ) (n used : ℕ) (later : FeedOutcome) → furtherBy (findingBy v n) (closing v k n used) later ≡ closing v k n used
 
 -- with the last byte
 settles : (l : List ℕ) (x : ℕ) (rest k : List ℕ) (n : ℕ) (v : Verdict) → Final v → length k ≡ room → n < room
@@ -144,7 +144,7 @@ between-takes : (s : State) (x : ℕ) (l : List ℕ) → Between s → taking s 
 between-takes s x l w = taking-cons s x l _ (between-byte s x w) ∙ sym (taking-cons (opened (s .kept) 0) x l _ refl)
 
 -- m stands at the front of the room, and this verdict was given on it
-abbrev settledAs : Verdict → State → List ℕ → Outcome
+abbrev settledAs : Verdict → State → List ℕ → FeedOutcome
 settledAs v s m = closing v (sets (s .kept) 0 m) (length m) (length m)
 
 piece-settles : (s : State) (m rest : List ℕ) (v : Verdict) → Between s → Settling m → 0 < length m → verdict m ≡ v → Final v
@@ -160,7 +160,7 @@ stream-settles : (s : State) (m rest : List ℕ) (v : Verdict) → Between s →
     → streaming s (m ++ rest) ≡ onward (settledAs v s m) (streaming (settledAs v s m .state) rest)
 stream-settles s m rest v w st some e last =
     front (m ++ rest) s
-    ∙ ap (λ (o : Outcome). onward o (streaming (o .state) (drop (o .used) (m ++ rest)))) (piece-settles s m rest v w st some e last)
+    ∙ ap (λ (o : FeedOutcome). onward o (streaming (o .state) (drop (o .used) (m ++ rest)))) (piece-settles s m rest v w st some e last)
     ∙ ap (λ (l : List ℕ). onward (settledAs v s m) (streaming (settledAs v s m .state) l)) (drop-append-seam m rest)
 
 -- ---- a message
@@ -251,13 +251,13 @@ found-at-its-last-byte f p q c d w m before all =
     )
 
 -- a refusal is the end of it, whatever follows
-refused-there : (s : State) (m rest : List ℕ) (fault : FeedFault) → Between s → Settling m → 0 < length m → verdict m ≡ bad fault
-    → streaming s (m ++ rest) ≡ record { found = []; used = length m; state = settledAs (bad fault) s m .state }
+refused-there : (s : State) (m rest : List ℕ) (fault : FeedRefusal) → Between s → Settling m → 0 < length m → verdict m ≡ refused fault
+    → streaming s (m ++ rest) ≡ record { found = []; used = length m; state = settledAs (refused fault) s m .state }
 refused-there s m rest fault w st some e =
-    let at = settledAs (bad fault) s m .state in
+    let at = settledAs (refused fault) s m .state in
     let none : length m + 0 ≡ length m = omega arith in
-    stream-settles s m rest (bad fault) w st some e (λ k n used later. refl)
-    ∙ ap (onward (settledAs (bad fault) s m)) (refused-stream rest at fault refl)
+    stream-settles s m rest (refused fault) w st some e (λ k n used later. refl)
+    ∙ ap (onward (settledAs (refused fault) s m)) (refused-stream rest at fault refl)
     ∙ ap (λ (n : ℕ). record { found = []; used = n; state = at }) none
 
 -- bytes of a kind that settles
@@ -276,7 +276,7 @@ refused-with Case settling f p q rest fault c d w m e before all =
 refused-in-one-piece : (Case : List ℕ → Type 0) → AllSettle Case → RefusedInOnePiece Case
 refused-in-one-piece Case settling f m rest fault w h e =
     let st = settling m h in
-    sym (piece-settles (toldFeed f) m rest (bad (toldFault fault)) w (st .0) (st .1) e (λ k n used later. refl))
+    sym (piece-settles (toldFeed f) m rest (refused (toldFeedRefusal fault)) w (st .0) (st .1) e (λ k n used later. refl))
 
 headings-settle : AllSettle OfThe17th
 headings-settle m h = (heading-settles m h, omega arith)

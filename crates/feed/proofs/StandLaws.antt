@@ -8,9 +8,9 @@ use native.Mathlib.Omega.{arith}
 use borrow.Author.Tests.{lt-ltb, ltb-true}
 use lib.Dec.{ltb}
 use lib.ListN.{length}
-use Rattle.feed.specs.Feeding.{Stand, inside, whole, refused, State, begunBy, begun, refusal, Outcome, withByte, standing, still, byStand, byteIn, furtherBy, taking, ending, endBy}
+use Rattle.feed.specs.Feeding.{Stand, inside, whole, refused, State, begunBy, begun, refused, FeedOutcome, withByte, standing, still, byStand, byteIn, furtherBy, taking, ending, endBy}
 use Rattle.feed.specs.Helpers.{opened, goesOn}
-use Rattle.feed.specs.Verdict.{room, FeedFault, cut}
+use Rattle.feed.specs.Verdict.{room, FeedRefusal, cut}
 
 -- ---- nothing is used
 
@@ -24,18 +24,18 @@ nothing-offered s [] h = refl
 nothing-offered s (x ∷ l) h = absurd (omega arith)
 
 -- a refusal that stands
-pub refused-byte : (s : State) (f : FeedFault) (x : ℕ) → s .stand ≡ refused f → byteIn s x ≡ still s
+pub refused-byte : (s : State) (f : FeedRefusal) (x : ℕ) → s .stand ≡ refused f → byteIn s x ≡ still s
 unfolding byteIn
 refused-byte s f x e = ap (λ (t : Stand). byStand t (withByte (s .kept) (begun s) x) (still s)) e
 
-refused-further : (s : State) (f : FeedFault) (later : Outcome) → s .stand ≡ refused f → furtherBy (still s .finding) (still s) later ≡ still s
+refused-further : (s : State) (f : FeedRefusal) (later : FeedOutcome) → s .stand ≡ refused f → furtherBy (still s .finding) (still s) later ≡ still s
 refused-further s f later e = ap (λ (t : Stand). furtherBy (standing t) (still s) later) e
 
-pub refused-takes : (s : State) (f : FeedFault) (piece : List ℕ) → s .stand ≡ refused f → still s ≡ taking s piece
+pub refused-takes : (s : State) (f : FeedRefusal) (piece : List ℕ) → s .stand ≡ refused f → still s ≡ taking s piece
 unfolding taking
 refused-takes s f [] e = refl
 refused-takes s f (x ∷ l) e =
-    sym (ap (λ (o : Outcome). furtherBy (o .finding) o (taking (o .state) l)) (refused-byte s f x e) ∙ refused-further s f (taking s l) e)
+    sym (ap (λ (o : FeedOutcome). furtherBy (o .finding) o (taking (o .state) l)) (refused-byte s f x e) ∙ refused-further s f (taking s l) e)
 
 -- ---- the next byte
 
@@ -67,7 +67,7 @@ pub same-begun : (s : State) (t : Stand) (piece : List ℕ) → s .stand ≡ t �
 unfolding taking
 same-begun s t [] e k h = absurd (omega arith)
 same-begun s t (x ∷ l) e k h =
-    ap (λ (o : Outcome). furtherBy (o .finding) o (taking (o .state) l))
+    ap (λ (o : FeedOutcome). furtherBy (o .finding) o (taking (o .state) l))
     (open-byte (s .kept) (begunBy t (s .count)) x (begun-room t (s .count)) ∙ sym (byte-goes-in s t x e k))
 
 -- by whether the next byte goes in
@@ -101,8 +101,8 @@ unfolding ending
 end-none s e = end-none-by (s .stand) (begun s) s e
 
 -- the state with 52
-abbrev pub cutShort : State → Outcome
-cutShort s = record { state = record { kept = s .kept; count = s .count; stand = refused cut }; used = 0; finding = refusal cut }
+abbrev pub cutShort : State → FeedOutcome
+cutShort s = record { state = record { kept = s .kept; count = s .count; stand = refused cut }; used = 0; finding = refused cut }
 
 end-some-by : (t : Stand) (n : ℕ) (s : State) → (begunBy t n ≡ 0 → ⊥) → endBy t (begunBy t n) s ≡ cutShort s
 end-some-by inside n s h = go (begunBy inside n) h
@@ -118,7 +118,7 @@ unfolding ending
 end-some s h = end-some-by (s .stand) (s .count) s h
 
 -- no byte is used by an end
-abbrev unused : Outcome → Outcome
+abbrev unused : FeedOutcome → FeedOutcome
 unused o = record { state = o .state; used = 0; finding = o .finding }
 
 unused-by : (t : Stand) (m : ℕ) (s : State) → unused (endBy t m s) ≡ endBy t m s
@@ -127,6 +127,6 @@ unused-by inside (suc n) s = refl
 unused-by whole m s = refl
 unused-by (refused f) m s = refl
 
-pub end-uses-none : (s : State) (o : Outcome) → o ≡ ending s → unused o ≡ ending s
+pub end-uses-none : (s : State) (o : FeedOutcome) → o ≡ ending s → unused o ≡ ending s
 unfolding ending
 end-uses-none s o e = ap unused e ∙ unused-by (s .stand) (begun s) s

@@ -10,23 +10,23 @@ use lib.ListN.{length, take, set, length-set}
 use lib.Seq.{sets}
 use Rattle.envelope.specs.Announcing.{announces, announcing}
 use Rattle.envelope.specs.Layout.{headerSize}
-use Rattle.feed.specs.Feeding.{State, still, Outcome, closing, findingBy, furtherBy, nothing, byteIn, taking}
+use Rattle.feed.specs.Feeding.{State, still, FeedOutcome, closing, findingBy, furtherBy, nothing, byteIn, taking}
 use Rattle.feed.specs.Helpers.{opened, outcomeAt}
-use Rattle.feed.specs.Verdict.{room, Verdict, more, complete, bad, verdict}
+use Rattle.feed.specs.Verdict.{room, Verdict, more, complete, refused, verdict}
 use Rattle.feed.proofs.LaidLaws.{in-length}
 use Rattle.feed.proofs.VerdictLaws.{verdict-short, verdict-more, announcing-grown}
 
 -- ---- one byte
 
 -- going on from n bytes that gave a verdict
-abbrev pub onFrom : Verdict → List ℕ → ℕ → ℕ → Outcome → Outcome
+abbrev pub onFrom : Verdict → List ℕ → ℕ → ℕ → FeedOutcome → FeedOutcome
 onFrom v k n used later = furtherBy (findingBy v n) (closing v k n used) later
 
 same-later : (v : Verdict) (k : List ℕ) (n used : ℕ) (rest : List ℕ)
     → onFrom v k n used (taking (closing v k n used .state) rest) ≡ onFrom v k n used (taking (opened k n) rest)
 same-later more k n used rest = refl
 same-later (complete f) k n used rest = refl
-same-later (bad f) k n used rest = refl
+same-later (refused f) k n used rest = refl
 
 pub byte-in : (k : List ℕ) (n x : ℕ) → n < room
     → byteIn (opened k n) x ≡ closing (verdict (take (suc n) (set k n x))) (set k n x) (suc n) 1
@@ -38,10 +38,10 @@ pub taking-nil : (s : State) → taking s [] ≡ still s
 unfolding taking
 taking-nil s = refl
 
-pub taking-cons : (s : State) (x : ℕ) (rest : List ℕ) (o : Outcome) → byteIn s x ≡ o
+pub taking-cons : (s : State) (x : ℕ) (rest : List ℕ) (o : FeedOutcome) → byteIn s x ≡ o
     → taking s (x ∷ rest) ≡ furtherBy (o .finding) o (taking (o .state) rest)
 unfolding taking
-taking-cons s x rest o e = ap (λ (p : Outcome). furtherBy (p .finding) p (taking (p .state) rest)) e
+taking-cons s x rest o e = ap (λ (p : FeedOutcome). furtherBy (p .finding) p (taking (p .state) rest)) e
 
 pub one-byte : (k : List ℕ) (n x : ℕ) (rest : List ℕ) → n < room
     → taking (opened k n) (x ∷ rest) ≡ outcomeAt (set k n x) (suc n) 1 rest
@@ -52,7 +52,7 @@ one-byte k n x rest h =
 -- ---- a stretch
 
 -- one byte more was used before it
-used-before : (v : Verdict) (k : List ℕ) (n u : ℕ) (now later : Outcome) → now .used ≡ 1
+used-before : (v : Verdict) (k : List ℕ) (n u : ℕ) (now later : FeedOutcome) → now .used ≡ 1
     → furtherBy nothing now (onFrom v k n u later) ≡ onFrom v k n (suc u) later
 used-before more k n u now later e = λ i. record { state = later .state; used = sum i; finding = later .finding }
   where
@@ -62,7 +62,7 @@ used-before (complete f) k n u now later e = λ i. record { state = closing (com
   where
     sum : now .used + u ≡ suc u
     sum = omega arith
-used-before (bad f) k n u now later e = λ i. record { state = closing (bad f) k n u .state; used = sum i; finding = findingBy (bad f) n }
+used-before (refused f) k n u now later e = λ i. record { state = closing (refused f) k n u .state; used = sum i; finding = findingBy (refused f) n }
   where
     sum : now .used + u ≡ suc u
     sum = omega arith
@@ -86,7 +86,7 @@ module _ (Ok : List ℕ → ℕ → Type 0) (bound : ℕ) (bound-room : bound �
       let all = sets (set k' (suc n) y) (suc (suc n)) l in
       let end : suc n + length (y ∷ l) ≡ suc (suc n) + length l = omega arith in
       quiet-byte k n x (y ∷ (l ++ rest)) (omega arith) (q .0)
-      ∙ ap (λ (o : Outcome). furtherBy nothing (closing more k' (suc n) 1) o) (stretched l y k' (suc n) rest (q .1) (omega arith))
+      ∙ ap (λ (o : FeedOutcome). furtherBy nothing (closing more k' (suc n) 1) o) (stretched l y k' (suc n) rest (q .1) (omega arith))
       ∙ used-before (verdict (take (suc (suc n) + length l) all)) all (suc (suc n) + length l) (suc (length l)) (closing more k' (suc n) 1) (taking (opened all (suc (suc n) + length l)) rest) refl
       ∙ ap (λ (m : ℕ). outcomeAt all m (suc (suc (length l))) rest) (sym end)
 

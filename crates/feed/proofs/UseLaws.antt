@@ -7,10 +7,10 @@ use native.Mathlib.Omega.{arith}
 use lib.ListN.{length, drop, length-drop}
 use Rattle.envelope.specs.Fields.{Fields}
 use Rattle.feed.specs.Cutting.{over, stopped, call, noCalls, callThen, Uses, UsesBytes, SettledBy, LastUsedSettles, Answered, Run, RunsEnd}
-use Rattle.feed.specs.Feeding.{Stand, refused, State, nothing, message, refusal, Outcome, closing, findingBy, standing, still, byteIn, furtherBy, taking}
+use Rattle.feed.specs.Feeding.{Stand, refused, State, nothing, message, refused, FeedOutcome, closing, findingBy, standing, still, byteIn, furtherBy, taking}
 use Rattle.feed.specs.Stream.{Course, streaming}
 use Rattle.feed.specs.Told.{toldStanding, toldFeed}
-use Rattle.feed.specs.Verdict.{FeedFault, Verdict, more, complete, bad}
+use Rattle.feed.specs.Verdict.{FeedRefusal, Verdict, more, complete, refused}
 use Rattle.feed.specs.declared.feeder.Feed.{Feed}
 use Rattle.feed.specs.declared.step.Standing.{Standing}
 use Rattle.feed.specs.declared.step.Standing.the-variants.{Inside, Whole, Refused}
@@ -22,10 +22,10 @@ use Rattle.feed.proofs.TakingLaws.{taking-nil, taking-cons}
 pub message-not-nothing : (n : ℕ) (f : Fields) → message n f ≡ nothing → ⊥
 message-not-nothing n f e = let z : _≡_ {A = ℕ} 0 1 = cc in omega arith
 
-pub refusal-not-nothing : (f : FeedFault) → refusal f ≡ nothing → ⊥
+pub refusal-not-nothing : (f : FeedRefusal) → refused f ≡ nothing → ⊥
 refusal-not-nothing f e = let z : _≡_ {A = ℕ} 0 1 = cc in omega arith
 
-pub refused-not-going : (t : Stand) (f : FeedFault) → t ≡ refused f → standing t ≡ nothing → ⊥
+pub refused-not-going : (t : Stand) (f : FeedRefusal) → t ≡ refused f → standing t ≡ nothing → ⊥
 refused-not-going t f e o = refusal-not-nothing f (ap standing (sym e) ∙ o)
 
 -- ---- how many bytes
@@ -35,10 +35,10 @@ uses-by : (v : Verdict) (s : State) (x : ℕ) (l k : List ℕ) (n : ℕ) → Use
 uses-by more s x l k n u =
     record { within = omega (arith, u .within); some = λ g h. omega arith; all = λ e. let q = u .all e in omega arith }
 uses-by (complete f) s x l k n u = record { within = omega arith; some = λ g h. omega arith; all = λ e. absurd (message-not-nothing n f e) }
-uses-by (bad f) s x l k n u = record { within = omega arith; some = λ g h. omega arith; all = λ e. absurd (refusal-not-nothing f e) }
+uses-by (refused f) s x l k n u = record { within = omega arith; some = λ g h. omega arith; all = λ e. absurd (refusal-not-nothing f e) }
 
-repeats-finding : (s : State) (x : ℕ) (l : List ℕ) (f : FeedFault) → s .stand ≡ refused f → byteIn s x ≡ still s
-    → taking s (x ∷ l) ≡ record { state = s; used = 0; finding = refusal f }
+repeats-finding : (s : State) (x : ℕ) (l : List ℕ) (f : FeedRefusal) → s .stand ≡ refused f → byteIn s x ≡ still s
+    → taking s (x ∷ l) ≡ record { state = s; used = 0; finding = refused f }
 repeats-finding s x l f e b =
     taking-cons s x l _ b ∙ ap (λ (t : Stand). furtherBy (standing t) (record { state = s; used = 0; finding = standing t }) (taking s l)) e
 
@@ -58,7 +58,7 @@ uses-bytes f piece t p = subst (Uses (toldFeed f) piece) (sym p) (uses piece (to
 -- ---- the last byte used
 
 -- it is the first of what is left
-settled-first : (s : State) (x : ℕ) (l : List ℕ) (o : Outcome) → byteIn s x ≡ o → o .used ≡ 1 → standing (s .stand) ≡ nothing → SettledBy s (x ∷ l) o
+settled-first : (s : State) (x : ℕ) (l : List ℕ) (o : FeedOutcome) → byteIn s x ≡ o → o .used ≡ 1 → standing (s .stand) ≡ nothing → SettledBy s (x ∷ l) o
 settled-first s x l o b one g =
     let none = streaming-nil s in
     let e : byteIn (streaming s [] .state) x ≡ o = ap (λ (c : Course). byteIn (c .state) x) none ∙ b in
@@ -70,11 +70,11 @@ settled-first s x l o b one g =
       used-up-to = one;
       none-found = ap (λ (c : Course). c .found) none;
       none-refused = ap (λ (c : Course). standing (c .state .stand)) none ∙ g;
-      settles = (ap (λ (p : Outcome). p .finding) e, ap (λ (p : Outcome). p .state) e);
+      settles = (ap (λ (p : FeedOutcome). p .finding) e, ap (λ (p : FeedOutcome). p .state) e);
     }
 
 -- it comes later
-settled-later : (s : State) (x : ℕ) (l k : List ℕ) (n : ℕ) (later : Outcome) → byteIn s x ≡ closing more k n 1
+settled-later : (s : State) (x : ℕ) (l k : List ℕ) (n : ℕ) (later : FeedOutcome) → byteIn s x ≡ closing more k n 1
     → SettledBy (closing more k n 1 .state) l later → SettledBy s (x ∷ l) (furtherBy nothing (closing more k n 1) later)
 settled-later s x l k n later b r =
     let e = streaming-cons s x (r .before) _ b in
@@ -99,21 +99,21 @@ settled-by : (v : Verdict) (s : State) (x : ℕ) (l k : List ℕ) (n : ℕ) → 
     → SettledBy s (x ∷ l) (furtherBy (findingBy v n) (closing v k n 1) (taking (closing v k n 1 .state) l))
 settled-by more s x l k n b g later d = settled-later s x l k n _ b (later refl d)
 settled-by (complete f) s x l k n b g later d = settled-first s x l _ b refl g
-settled-by (bad f) s x l k n b g later d = settled-first s x l _ b refl g
+settled-by (refused f) s x l k n b g later d = settled-first s x l _ b refl g
 
 settled : (piece : List ℕ) (s : State) → SettledWhere s piece
-settled [] s g d = absurd (d (ap (λ (o : Outcome). o .finding) (taking-nil s) ∙ g))
+settled [] s g d = absurd (d (ap (λ (o : FeedOutcome). o .finding) (taking-nil s) ∙ g))
 settled (x ∷ l) s g d = go (λ t. settled l t) (byte s x)
   where
     go : ((t : State) → SettledWhere t l) → Byte s x → SettledBy s (x ∷ l) (taking s (x ∷ l))
     go later (repeats f e b) = absurd (refused-not-going (s .stand) f e g)
     go later (goes-in v q b o) =
         let eq = taking-cons s x l _ b in
-        rw eq (settled-by v s x l _ _ b g (later _) (λ z. d (ap (λ (p : Outcome). p .finding) eq ∙ z)))
+        rw eq (settled-by v s x l _ _ b g (later _) (λ z. d (ap (λ (p : FeedOutcome). p .finding) eq ∙ z)))
 
 pub last-used-settles : LastUsedSettles
 last-used-settles f piece t p g d =
-    subst (SettledBy (toldFeed f) piece) (sym p) (settled piece (toldFeed f) g (λ z. d (ap (λ (o : Outcome). o .finding) p ∙ z)))
+    subst (SettledBy (toldFeed f) piece) (sym p) (settled piece (toldFeed f) g (λ z. d (ap (λ (o : FeedOutcome). o .finding) p ∙ z)))
 
 -- ---- there is a run
 

@@ -12,7 +12,7 @@ use Rattle.envelope.specs.Announcing.{AnnouncementAnswer, unfinished, refused, 
 use Rattle.envelope.specs.Fields.{Refusal}
 use Rattle.envelope.specs.Layout.{headerSize}
 use Rattle.envelope.specs.Reading.{reading}
-use Rattle.feed.specs.Verdict.{room, more, bad, reads, tooLong, settled, weighed, verdict}
+use Rattle.feed.specs.Verdict.{room, more, refused, reads, tooLong, settled, weighed, verdict}
 use Rattle.feed.proofs.LaidLaws.{laid-front}
 
 pub verdict-by : (m : List ℕ) (a : AnnouncementAnswer) → announcing m ≡ a → verdict m ≡ weighed a m
@@ -22,10 +22,10 @@ verdict-by m a e = ap (λ (b : AnnouncementAnswer). weighed b m) e
 pub verdict-short : (m : List ℕ) → length m < headerSize → verdict m ≡ more
 verdict-short m h = verdict-by m unfinished (announcing-short m h)
 
-pub verdict-heading : (m : List ℕ) (r : Refusal) → announcing m ≡ refused r → verdict m ≡ bad (reads r)
+pub verdict-heading : (m : List ℕ) (r : Refusal) → announcing m ≡ refused r → verdict m ≡ refused (reads r)
 verdict-heading m r e = verdict-by m (refused r) e
 
-pub verdict-too-long : (m : List ℕ) (w : ℕ) → announcing m ≡ announces w → room < w → verdict m ≡ bad tooLong
+pub verdict-too-long : (m : List ℕ) (w : ℕ) → announcing m ≡ announces w → room < w → verdict m ≡ refused tooLong
 verdict-too-long m w e h = verdict-by m (announces w) e ∙ rw (lt-ltb room w h)
 
 pub verdict-more : (m : List ℕ) (w : ℕ) → announcing m ≡ announces w → w ≤ room → length m < w → verdict m ≡ more

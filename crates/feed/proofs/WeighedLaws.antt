@@ -11,7 +11,7 @@ use lib.ListN.{length}
 use Rattle.envelope.specs.Announcing.{AnnouncementAnswer, unfinished, refused as refusedHeading, announces, announcing}
 use Rattle.envelope.specs.Fields.{Fields, Answer, accepted, refused as unread}
 use Rattle.envelope.specs.Reading.{reading}
-use Rattle.feed.specs.Verdict.{room, FeedFault, reads, tooLong, more, complete, bad, settled, verdict}
+use Rattle.feed.specs.Verdict.{room, FeedRefusal, reads, tooLong, more, complete, refused, settled, verdict}
 use Rattle.feed.proofs.VerdictLaws.{verdict-by, verdict-too-long, verdict-more, verdict-whole}
 
 -- ---- verdicts differ
@@ -19,13 +19,13 @@ use Rattle.feed.proofs.VerdictLaws.{verdict-by, verdict-too-long, verdi
 pub more-not-complete : (f : Fields) → more ≡ complete f → ⊥
 more-not-complete f e = let z : _≡_ {A = ℕ} 0 1 = cc in omega arith
 
-pub bad-not-complete : (f : FeedFault) (g : Fields) → bad f ≡ complete g → ⊥
+pub bad-not-complete : (f : FeedRefusal) (g : Fields) → refused f ≡ complete g → ⊥
 bad-not-complete f g e = let z : _≡_ {A = ℕ} 0 1 = cc in omega arith
 
-pub more-not-bad : (f : FeedFault) → more ≡ bad f → ⊥
+pub more-not-bad : (f : FeedRefusal) → more ≡ refused f → ⊥
 more-not-bad f e = let z : _≡_ {A = ℕ} 0 1 = cc in omega arith
 
-pub same-fault : (f g : FeedFault) → bad f ≡ bad g → f ≡ g
+pub same-fault : (f g : FeedRefusal) → refused f ≡ refused g → f ≡ g
 same-fault f g e = cc
 
 settled-complete : (a : Answer) (f : Fields) → settled a ≡ complete f → a ≡ accepted f
@@ -39,7 +39,7 @@ settled-not-more (unread r) e = more-not-bad (reads r) (sym e)
 -- ---- a verdict on an announced length, in its three cases
 
 pub data Weighed (m : List ℕ) (w : ℕ) : Type 0 where
-  too-long : room < w → verdict m ≡ bad tooLong → Weighed m w
+  too-long : room < w → verdict m ≡ refused tooLong → Weighed m w
   not-yet : w ≤ room → length m < w → verdict m ≡ more → Weighed m w
   all-in : w ≤ room → w ≤ length m → verdict m ≡ settled (reading m) → Weighed m w
 

@@ -4,10 +4,10 @@ use Prim.Native.Nat.{ℕ, suc, _+_, _≤_, _<_}
 use mathlib.Core.List.{List, [], _∷_, _++_}
 use mathlib.Core.Path.{_≡_}
 use lib.ListN.{length, drop}
-use Rattle.feed.specs.Feeding.{State, nothing, Outcome, standing, byteIn}
+use Rattle.feed.specs.Feeding.{State, nothing, FeedOutcome, standing, byteIn}
 use Rattle.feed.specs.Stream.{foundIn, Course, streaming}
 use Rattle.feed.specs.Told.{toldFeed, toldTaken, Takes, Ends, Advances, Closes}
-use Rattle.feed.specs.declared.fault.Fault.{Fault}
+use Rattle.feed.specs.declared.refusal.Refusal.{Refusal as CodeRefusal}
 use Rattle.feed.specs.declared.feeder.Ended.{Ended}
 use Rattle.feed.specs.declared.feeder.Feed.{Feed}
 use Rattle.feed.specs.declared.feeder.Taken.{Taken}
@@ -33,7 +33,7 @@ callThen t c = record { found = foundIn (toldTaken t) ++ c .found; used = t .use
 -- first in what follows. The run is over when no byte is left, or a refusal stands.
 pub data Calls : Feed → List ℕ → Came → Type 0 where
   over : {f : Feed} → Calls f [] (noCalls f)
-  stopped : {f : Feed} {bytes : List ℕ} (fault : Fault) → f .standing ≡ Refused fault → Calls f bytes (noCalls f)
+  stopped : {f : Feed} {bytes : List ℕ} (fault : CodeRefusal) → f .standing ≡ Refused fault → Calls f bytes (noCalls f)
   call : {f : Feed} {bytes : List ℕ} {c : Came} (piece rest : List ℕ) (t : Taken)
       → bytes ≡ piece ++ rest → Takes f piece t → Calls (t .feed) (drop (t .used) piece ++ rest) c
       → Calls f bytes (callThen t c)
@@ -66,7 +66,7 @@ CloseIsEnd = (f : Feed) (r : Step) → Closes (f .count) (f .standing) r
 
 -- ---- a call by itself: what it used
 
-pub record Uses (s : State) (piece : List ℕ) (o : Outcome) : Type 0 where
+pub record Uses (s : State) (piece : List ℕ) (o : FeedOutcome) : Type 0 where
   pub within : o .used ≤ length piece
   -- it gets on, unless a refusal stands
   pub some : standing (s .stand) ≡ nothing → 0 < length piece → 0 < o .used
@@ -77,7 +77,7 @@ abbrev pub UsesBytes : Type 0
 UsesBytes = (f : Feed) (piece : List ℕ) (t : Taken) → Takes f piece t → Uses (toldFeed f) piece (toldTaken t)
 
 -- what a call finds is settled by the last byte that it used: the bytes before it are used up with nothing found
-pub record SettledBy (s : State) (piece : List ℕ) (o : Outcome) : Type 0 where
+pub record SettledBy (s : State) (piece : List ℕ) (o : FeedOutcome) : Type 0 where
   pub before : List ℕ
   pub last : ℕ
   pub left : List ℕ

@@ -6,7 +6,8 @@ use mathlib.Core.List.{List, [], _∷_}
 use lib.Dec.{ltb}
 use lib.ListN.{take, set, replicate}
 use Rattle.envelope.specs.Fields.{Fields}
-use Rattle.feed.specs.Verdict.{room, FeedFault, cut, Verdict, more, complete, bad, verdict}
+use Rattle.feed.specs.Verdict.{room, FeedRefusal, cut, Verdict, more, complete, verdict}
+use Rattle.feed.specs.Verdict as judged
 
 -- ---- the state
 
@@ -14,7 +15,7 @@ use Rattle.feed.specs.Verdict.{room, FeedFault, cut, Verdict, more, comp
 pub data Stand : Type 0 where
   inside : Stand
   whole : Stand
-  refused : FeedFault → Stand
+  refused : FeedRefusal → Stand
 
 -- the first `count` of the bytes kept are the message's
 pub record State : Type 0 where
@@ -40,9 +41,9 @@ begun s = begunBy (s .stand) (s .count)
 pub data Finding : Type 0 where
   nothing : Finding
   message : (size : ℕ) → Fields → Finding
-  refusal : FeedFault → Finding
+  refused : FeedRefusal → Finding
 
-pub record Outcome : Type 0 where
+pub record FeedOutcome : Type 0 where
   pub state : State
   pub used : ℕ
   pub finding : Finding
@@ -50,62 +51,62 @@ pub record Outcome : Type 0 where
 abbrev pub standBy : Verdict → Stand
 standBy more = inside
 standBy (complete f) = whole
-standBy (bad f) = refused f
+standBy (judged.refused f) = refused f
 
 abbrev pub findingBy : Verdict → ℕ → Finding
 findingBy more n = nothing
 findingBy (complete f) n = message n f
-findingBy (bad f) n = refusal f
+findingBy (judged.refused f) n = refused f
 
 -- n bytes are in, the last of them gave this verdict, and so many of the piece were used
-abbrev pub closing : Verdict → List ℕ → ℕ → ℕ → Outcome
+abbrev pub closing : Verdict → List ℕ → ℕ → ℕ → FeedOutcome
 closing v kept n used =
     record { state = record { kept = kept; count = n; stand = standBy v }; used = used; finding = findingBy v n }
 
 -- ---- one byte
 
 -- it goes to its place, and all that is in of the message is judged
-abbrev pub withByte : List ℕ → ℕ → ℕ → Outcome
+abbrev pub withByte : List ℕ → ℕ → ℕ → FeedOutcome
 withByte kept n x = closing (verdict (take (suc n) (set kept n x))) (set kept n x) (suc n) 1
 
 -- nothing is used, and a refusal that stands is repeated
 abbrev pub standing : Stand → Finding
 standing inside = nothing
 standing whole = nothing
-standing (refused f) = refusal f
+standing (refused f) = refused f
 
-abbrev pub still : State → Outcome
+abbrev pub still : State → FeedOutcome
 still s = record { state = s; used = 0; finding = standing (s .stand) }
 
-abbrev pub byStand : Stand → Outcome → Outcome → Outcome
+abbrev pub byStand : Stand → FeedOutcome → FeedOutcome → FeedOutcome
 byStand inside new old = new
 byStand whole new old = new
 byStand (refused f) new old = old
 
-unfoldable pub byteIn : State → ℕ → Outcome
+unfoldable pub byteIn : State → ℕ → FeedOutcome
 byteIn s x = byStand (s .stand) (withByte (s .kept) (begun s) x) (still s)
 
 -- ---- a piece: bytes until something is found
 
-abbrev pub furtherBy : Finding → Outcome → Outcome → Outcome
+abbrev pub furtherBy : Finding → FeedOutcome → FeedOutcome → FeedOutcome
 furtherBy nothing now later = record { state = later .state; used = now .used + later .used; finding = later .finding }
 furtherBy (message n f) now later = now
-furtherBy (refusal f) now later = now
+furtherBy (refused f) now later = now
 
-unfoldable pub taking : State → List ℕ → Outcome
+unfoldable pub taking : State → List ℕ → FeedOutcome
 taking s [] = still s
 taking s (x ∷ l) = furtherBy (byteIn s x .finding) (byteIn s x) (taking (byteIn s x .state) l)
 
 -- ---- the end: inside a message it is 52, and nowhere else anything new
 
-abbrev pub endBy : Stand → ℕ → State → Outcome
+abbrev pub endBy : Stand → ℕ → State → FeedOutcome
 endBy inside zero s = still s
 endBy inside (suc n) s =
-    record { state = record { kept = s .kept; count = s .count; stand = refused cut }; used = 0; finding = refusal cut }
+    record { state = record { kept = s .kept; count = s .count; stand = refused cut }; used = 0; finding = refused cut }
 endBy whole n s = still s
 endBy (refused f) n s = still s
 
-unfoldable pub ending : State → Outcome
+unfoldable pub ending : State → FeedOutcome
 ending s = endBy (s .stand) (begun s) s
 
 -- ---- the message found, until the next byte comes: else nothing is held

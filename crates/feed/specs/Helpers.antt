@@ -9,7 +9,7 @@ use lib.ListN.{take}
 use lib.Seq.{sets}
 use Rattle.envelope.specs.Announcing.{announces, announcing}
 use Rattle.envelope.specs.Layout.{headerSize}
-use Rattle.feed.specs.Feeding.{Stand, inside, whole, refused, State, Finding, Outcome, standBy, findingBy, closing, standing, furtherBy, taking}
+use Rattle.feed.specs.Feeding.{Stand, inside, whole, refused, State, Finding, FeedOutcome, standBy, findingBy, closing, standing, furtherBy, taking}
 use Rattle.feed.specs.Told.{toldStanding, toldFound}
 use Rattle.feed.specs.Verdict.{room, Verdict, verdict}
 use Rattle.feed.specs.declared.step.Step.{Step}
@@ -28,7 +28,7 @@ abbrev pub laidIn : List ℕ → ℕ → List ℕ → List ℕ
 laidIn kept n part = sets kept n part
 
 -- n bytes are in and so many were used: the outcome, with the rest of the piece
-abbrev pub outcomeAt : List ℕ → ℕ → ℕ → List ℕ → Outcome
+abbrev pub outcomeAt : List ℕ → ℕ → ℕ → List ℕ → FeedOutcome
 outcomeAt kept n used rest =
     furtherBy (closing (verdict (take n kept)) kept n used .finding) (closing (verdict (take n kept)) kept n used) (taking (opened kept n) rest)
 
@@ -67,5 +67,5 @@ beside v n used = record { count = n; stand = standBy v; used = used; finding = 
 abbrev pub stillBeside : ℕ → Stand → Beside
 stillBeside n t = record { count = n; stand = t; used = 0; finding = standing t }
 
-abbrev pub outcomeOf : List ℕ → Beside → Outcome
+abbrev pub outcomeOf : List ℕ → Beside → FeedOutcome
 outcomeOf kept b = record { state = record { kept = kept; count = b .count; stand = b .stand }; used = b .used; finding = b .finding }

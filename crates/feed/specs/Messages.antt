@@ -12,14 +12,14 @@ use Rattle.envelope.specs.Reading.{reading}
 use Rattle.envelope.specs.Told.{toldEnvelope}
 use Rattle.envelope.specs.declared.fields.Envelope.{Envelope}
 use Rattle.feed.specs.Cutting.{Came, Calls}
-use Rattle.feed.specs.Feeding.{Stand, whole, refused, State, begun, Finding, nothing, message, refusal, Outcome, standing, taking, ending}
+use Rattle.feed.specs.Feeding.{Stand, whole, refused, State, begun, Finding, nothing, message, refused, FeedOutcome, standing, taking, ending}
 use Rattle.feed.specs.Stream.{foundIn}
-use Rattle.feed.specs.Told.{toldFault, toldFeed, toldTaken, Fresh, Takes, Holds}
-use Rattle.feed.specs.Verdict.{room, FeedFault, numberOf, bad, verdict}
-use Rattle.feed.specs.declared.fault.Fault.{Fault}
+use Rattle.feed.specs.Told.{toldFeedRefusal, toldFeed, toldTaken, Fresh, Takes, Holds}
+use Rattle.feed.specs.Verdict.{room, FeedRefusal, numberOf, refused, verdict}
+use Rattle.feed.specs.declared.refusal.Refusal.{Refusal as CodeRefusal}
 use Rattle.feed.specs.declared.feeder.Feed.{Feed}
 use Rattle.feed.specs.declared.feeder.Taken.{Taken}
-use Rattle.feed.specs.declared.step.Found.the-variants.{Message, Refused as Barred}
+use Rattle.feed.specs.declared.step.Found.the-variants.{Message, Refused as FoundRefused}
 use Rattle.feed.specs.declared.step.Standing.the-variants.{Whole, Refused}
 
 -- reading accepts it, and a feed has room for it
@@ -79,14 +79,14 @@ FoundIsHeld = (f : Feed) (piece : List ℕ) (t : Taken) (n : ℕ) (e : Envelope)
 abbrev pub foundSize : Finding → ℕ
 foundSize nothing = 0
 foundSize (message n f) = n
-foundSize (refusal f) = 0
+foundSize (refused f) = 0
 
-pub record Few (o : Outcome) : Type 0 where
+pub record Few (o : FeedOutcome) : Type 0 where
   pub used : o .used ≤ room
   pub size : foundSize (o .finding) ≤ room
 
 abbrev pub UsesFew : Type 0
-UsesFew = (s : State) (piece : List ℕ) (o : Outcome) → Roomy s → o ≡ taking s piece → Few o
+UsesFew = (s : State) (piece : List ℕ) (o : FeedOutcome) → Roomy s → o ≡ taking s piece → Few o
 
 -- an end finds none at all
 abbrev pub EndFindsNoMessage : Type 0
@@ -113,15 +113,15 @@ FoundAtItsLastByte = (f : Feed) (p q : List ℕ) (c d : Came) → Between (toldF
 -- refused when p ++ q is in, whatever follows: silent while a byte of it is missing, and nothing of what follows is used
 abbrev pub RefusedWith : (List ℕ → Type 0) → Type 0
 RefusedWith Settling =
-    (f : Feed) (p q rest : List ℕ) (fault : FeedFault) (c d : Came) → Between (toldFeed f) → Settling (p ++ q) → verdict (p ++ q) ≡ bad fault
+    (f : Feed) (p q rest : List ℕ) (fault : FeedRefusal) (c d : Came) → Between (toldFeed f) → Settling (p ++ q) → verdict (p ++ q) ≡ refused fault
     → Calls f p c → Calls f ((p ++ q) ++ rest) d
     → (0 < length q → Silent p c) × (d .found ≡ []) × SettledAt f (p ++ q) (refused fault) d
 
 -- a call that is lent such bytes, and whatever behind them
 abbrev pub RefusedInOnePiece : (List ℕ → Type 0) → Type 0
 RefusedInOnePiece Settling =
-    (f : Feed) (m rest : List ℕ) (fault : Fault) → Between (toldFeed f) → Settling m → verdict m ≡ bad (toldFault fault)
-    → Takes f (m ++ rest) (record { feed = record { kept = sets (f .kept) 0 m; count = length m; standing = Refused fault }; used = length m; found = Barred fault })
+    (f : Feed) (m rest : List ℕ) (fault : CodeRefusal) → Between (toldFeed f) → Settling m → verdict m ≡ refused (toldFeedRefusal fault)
+    → Takes f (m ++ rest) (record { feed = record { kept = sets (f .kept) 0 m; count = length m; standing = Refused fault }; used = length m; found = FoundRefused fault })
 
 -- a fault of the heading, with the 17th byte
 abbrev pub OfThe17th : List ℕ → Type 0
@@ -156,5 +156,5 @@ pub data Settles (m : List ℕ) (n : ℕ) : Type 0 where
 
 -- whatever run from a new feed: the bytes that are in of the refused message
 abbrev pub WhereRefused : Type 0
-WhereRefused = (f : Feed) (bytes : List ℕ) (c : Came) (fault : Fault) → Fresh f → Calls f bytes c → c .feed .standing ≡ Refused fault
-    → Settles (take (c .feed .count) (c .feed .kept)) (numberOf (toldFault fault))
+WhereRefused = (f : Feed) (bytes : List ℕ) (c : Came) (fault : CodeRefusal) → Fresh f → Calls f bytes c → c .feed .standing ≡ Refused fault
+    → Settles (take (c .feed .count) (c .feed .kept)) (numberOf (toldFeedRefusal fault))

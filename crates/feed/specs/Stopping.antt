@@ -6,30 +6,30 @@ use mathlib.Core.Path.{_≡_}
 use Rattle.feed.specs.Feeding.{begun, standing}
 use Rattle.feed.specs.Messages.{Between}
 use Rattle.feed.specs.Told.{toldFeed, toldTaken, Fresh, Takes, Ends}
-use Rattle.feed.specs.declared.fault.Fault.{Fault}
-use Rattle.feed.specs.declared.fault.Fault.the-variants.{Cut}
+use Rattle.feed.specs.declared.refusal.Refusal.{Refusal as CodeRefusal}
+use Rattle.feed.specs.declared.refusal.Refusal.the-variants.{Cut}
 use Rattle.feed.specs.declared.feeder.Ended.{Ended}
 use Rattle.feed.specs.declared.feeder.Feed.{Feed}
 use Rattle.feed.specs.declared.feeder.Taken.{Taken}
-use Rattle.feed.specs.declared.step.Found.the-variants.{Nothing, Refused as Barred}
+use Rattle.feed.specs.declared.step.Found.the-variants.{Nothing, Refused as FoundRefused}
 use Rattle.feed.specs.declared.step.Standing.the-variants.{Refused}
 
 -- a refusal that a call tells stands from then on
 abbrev pub RefusalIsKept : Type 0
-RefusalIsKept = (f : Feed) (fault : Fault) (piece : List ℕ) (t : Taken) → Takes f piece t → t .found ≡ Barred fault → t .feed .standing ≡ Refused fault
+RefusalIsKept = (f : Feed) (fault : CodeRefusal) (piece : List ℕ) (t : Taken) → Takes f piece t → t .found ≡ FoundRefused fault → t .feed .standing ≡ Refused fault
 
 -- and one that stands after a call was told by it, wherever the bytes are cut
 abbrev pub RefusalIsTold : Type 0
-RefusalIsTold = (f : Feed) (fault : Fault) (piece : List ℕ) (t : Taken) → Takes f piece t → t .feed .standing ≡ Refused fault → t .found ≡ Barred fault
+RefusalIsTold = (f : Feed) (fault : CodeRefusal) (piece : List ℕ) (t : Taken) → Takes f piece t → t .feed .standing ≡ Refused fault → t .found ≡ FoundRefused fault
 
 -- the end's stands from then on too
 abbrev pub EndIsKept : Type 0
-EndIsKept = (f : Feed) (fault : Fault) (e : Ended) → Ends f e → e .found ≡ Barred fault → e .feed .standing ≡ Refused fault
+EndIsKept = (f : Feed) (fault : CodeRefusal) (e : Ended) → Ends f e → e .found ≡ FoundRefused fault → e .feed .standing ≡ Refused fault
 
 -- while it stands nothing is used and nothing changes, and every call repeats it
 abbrev pub RefusalStands : Type 0
-RefusalStands = (f : Feed) (fault : Fault) (piece : List ℕ) (t : Taken) (e : Ended) → f .standing ≡ Refused fault → Takes f piece t → Ends f e
-    → (t ≡ record { feed = f; used = 0; found = Barred fault }) × (e ≡ record { feed = f; found = Barred fault })
+RefusalStands = (f : Feed) (fault : CodeRefusal) (piece : List ℕ) (t : Taken) (e : Ended) → f .standing ≡ Refused fault → Takes f piece t → Ends f e
+    → (t ≡ record { feed = f; used = 0; found = FoundRefused fault }) × (e ≡ record { feed = f; found = FoundRefused fault })
 
 -- until a restart, which gives the feed that `new` gives
 abbrev pub RestartIsNew : Type 0
@@ -46,4 +46,4 @@ EndBetween = (f : Feed) (e : Ended) → Ends f e → Between (toldFeed f) → e 
 -- inside one it is 52, and the bytes kept stay
 abbrev pub EndInside : Type 0
 EndInside = (f : Feed) (e : Ended) → Ends f e → 0 < begun (toldFeed f)
-    → e ≡ record { feed = record { kept = f .kept; count = f .count; standing = Refused Cut }; found = Barred Cut }
+    → e ≡ record { feed = record { kept = f .kept; count = f .count; standing = Refused Cut }; found = FoundRefused Cut }

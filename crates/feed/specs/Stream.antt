@@ -3,15 +3,15 @@
 use Prim.Native.Nat.{ℕ, _+_}
 use mathlib.Core.List.{List, [], _∷_, _++_}
 use lib.ListN.{take}
-use Rattle.feed.specs.Feeding.{State, Finding, nothing, message, refusal, Outcome, byteIn}
+use Rattle.feed.specs.Feeding.{State, Finding, nothing, message, refused, FeedOutcome, byteIn}
 
 -- the bytes of the message that was found
 abbrev pub foundBy : Finding → List ℕ → List (List ℕ)
 foundBy nothing kept = []
 foundBy (message n f) kept = take n kept ∷ []
-foundBy (refusal f) kept = []
+foundBy (refused f) kept = []
 
-abbrev pub foundIn : Outcome → List (List ℕ)
+abbrev pub foundIn : FeedOutcome → List (List ℕ)
 foundIn o = foundBy (o .finding) (o .state .kept)
 
 pub record Course : Type 0 where
@@ -24,7 +24,7 @@ abbrev pub noBytes : State → Course
 noBytes s = record { found = []; used = 0; state = s }
 
 -- first this outcome, then the rest of the stream
-abbrev pub onward : Outcome → Course → Course
+abbrev pub onward : FeedOutcome → Course → Course
 onward o c = record { found = foundIn o ++ c .found; used = o .used + c .used; state = c .state }
 
 unfoldable pub streaming : State → List ℕ → Course

@@ -4,28 +4,28 @@ use Prim.Native.Nat.{ℕ}
 use mathlib.Core.List.{List}
 use mathlib.Core.Path.{_≡_}
 use Rattle.envelope.specs.Told.{toldRefusal, toldEnvelope}
-use Rattle.feed.specs.Feeding.{Stand, inside, whole, refused, State, fresh, Finding, nothing, message, refusal, Outcome, taking, ending, holding}
-use Rattle.feed.specs.Verdict.{FeedFault, reads, tooLong, cut, numberOf}
-use Rattle.feed.specs.declared.fault.Fault.{Fault}
-use Rattle.feed.specs.declared.fault.Fault.the-variants.{Unread, TooLong, Cut}
+use Rattle.feed.specs.Feeding.{Stand, inside, whole, refused, State, fresh, Finding, nothing, message, refused, FeedOutcome, taking, ending, holding}
+use Rattle.feed.specs.Verdict.{FeedRefusal, reads, tooLong, cut, numberOf}
+use Rattle.feed.specs.declared.refusal.Refusal.{Refusal as CodeRefusal}
+use Rattle.feed.specs.declared.refusal.Refusal.the-variants.{MessageRefused, TooLong, Cut}
 use Rattle.feed.specs.declared.feeder.Ended.{Ended}
 use Rattle.feed.specs.declared.feeder.Feed.{Feed}
 use Rattle.feed.specs.declared.feeder.Taken.{Taken}
 use Rattle.feed.specs.declared.step.Found.{Found}
-use Rattle.feed.specs.declared.step.Found.the-variants.{Nothing, Message, Refused as Barred}
+use Rattle.feed.specs.declared.step.Found.the-variants.{Nothing, Message, Refused as FoundRefused}
 use Rattle.feed.specs.declared.step.Standing.{Standing}
 use Rattle.feed.specs.declared.step.Standing.the-variants.{Inside, Whole, Refused}
 use Rattle.feed.specs.declared.step.Step.{Step}
 
-abbrev pub toldFault : Fault → FeedFault
-toldFault (Unread r) = reads (toldRefusal r)
-toldFault TooLong = tooLong
-toldFault Cut = cut
+abbrev pub toldFeedRefusal : CodeRefusal → FeedRefusal
+toldFeedRefusal (MessageRefused r) = reads (toldRefusal r)
+toldFeedRefusal TooLong = tooLong
+toldFeedRefusal Cut = cut
 
 abbrev pub toldStanding : Standing → Stand
 toldStanding Inside = inside
 toldStanding Whole = whole
-toldStanding (Refused f) = refused (toldFault f)
+toldStanding (Refused f) = refused (toldFeedRefusal f)
 
 -- a state in parts, as it is lent
 abbrev pub stateOf : List ℕ → ℕ → Standing → State
@@ -37,22 +37,22 @@ toldFeed f = stateOf (f .kept) (f .count) (f .standing)
 abbrev pub toldFound : Found → Finding
 toldFound Nothing = nothing
 toldFound (Message size e) = message size (toldEnvelope e)
-toldFound (Barred f) = refusal (toldFault f)
+toldFound (FoundRefused f) = refused (toldFeedRefusal f)
 
 -- beside the bytes kept as they are then
-abbrev pub toldStep : Step → List ℕ → Outcome
+abbrev pub toldStep : Step → List ℕ → FeedOutcome
 toldStep r kept = record { state = stateOf kept (r .count) (r .standing); used = r .used; finding = toldFound (r .found) }
 
-abbrev pub toldTaken : Taken → Outcome
+abbrev pub toldTaken : Taken → FeedOutcome
 toldTaken t = record { state = toldFeed (t .feed); used = t .used; finding = toldFound (t .found) }
 
 -- an end uses no byte
-abbrev pub toldEnded : Ended → Outcome
+abbrev pub toldEnded : Ended → FeedOutcome
 toldEnded e = record { state = toldFeed (e .feed); used = 0; finding = toldFound (e .found) }
 
--- what `Fault::number` promises
-abbrev pub NumbersFault : Fault → ℕ → Type 0
-NumbersFault f r = r ≡ numberOf (toldFault f)
+-- what `CodeRefusal::number` promises
+abbrev pub NumbersFeedRefusal : CodeRefusal → ℕ → Type 0
+NumbersFeedRefusal f r = r ≡ numberOf (toldFeedRefusal f)
 
 -- what `Feed::new` and `Feed::restart` promise
 abbrev pub Fresh : Feed → Type 0

@@ -5,8 +5,10 @@ use mathlib.Core.Bool.{cond}
 use mathlib.Core.List.{List}
 use lib.Dec.{ltb}
 use lib.ListN.{length}
-use Rattle.envelope.specs.Announcing.{AnnouncementAnswer, unfinished, refused as refusedHeading, announces, announcing}
-use Rattle.envelope.specs.Fields.{Fields, Refusal, Answer, accepted, refused as unread}
+use Rattle.envelope.specs.Announcing.{AnnouncementAnswer, unfinished, announces, announcing}
+use Rattle.envelope.specs.Announcing as announced
+use Rattle.envelope.specs.Fields.{Fields, Refusal, Answer, accepted}
+use Rattle.envelope.specs.Fields as read
 use Rattle.envelope.specs.Reading.{reading}
 
 -- the longest message that a feed takes
@@ -14,12 +16,12 @@ abbrev pub room : ℕ
 room = 510
 
 -- a refusal of reading, passed on whole; 51, the announced length is over the room; 52, the end came inside a message
-pub data FeedFault : Type 0 where
-  reads : Refusal → FeedFault
-  tooLong : FeedFault
-  cut : FeedFault
+pub data FeedRefusal : Type 0 where
+  reads : Refusal → FeedRefusal
+  tooLong : FeedRefusal
+  cut : FeedRefusal
 
-abbrev pub numberOf : FeedFault → ℕ
+abbrev pub numberOf : FeedRefusal → ℕ
 numberOf (reads r) = r .number
 numberOf tooLong = 51
 numberOf cut = 52
@@ -27,17 +29,17 @@ numberOf cut = 52
 pub data Verdict : Type 0 where
   more : Verdict
   complete : Fields → Verdict
-  bad : FeedFault → Verdict
+  refused : FeedRefusal → Verdict
 
 abbrev pub settled : Answer → Verdict
 settled (accepted f) = complete f
-settled (unread r) = bad (reads r)
+settled (read.refused r) = refused (reads r)
 
 -- the heading first (2, 3, 4), then 51, and when the announced length is in, reading (6, 7)
 abbrev pub weighed : AnnouncementAnswer → List ℕ → Verdict
 weighed unfinished m = more
-weighed (refusedHeading r) m = bad (reads r)
-weighed (announces n) m = cond (ltb room n) (bad tooLong) (cond (ltb (length m) n) more (settled (reading m)))
+weighed (announced.refused r) m = refused (reads r)
+weighed (announces n) m = cond (ltb room n) (refused tooLong) (cond (ltb (length m) n) more (settled (reading m)))
 
 unfoldable pub verdict : List ℕ → Verdict
 verdict m = weighed (announcing m) m

@@ -8,10 +8,10 @@ ghost use Rattle.feed.specs.Helpers.{opened, goesOn, Expected, Stretch};
 ghost use Rattle.feed.specs.Messages.{Few};
 ghost use Rattle.feed.specs.Told.{toldStanding, toldStep, Advances};
 ghost use Rattle.feed.specs.Verdict.{room};
-use crate::fault::Fault;
 use crate::feeder::Feed;
 use crate::filler::fill;
 use crate::filler::lay;
+use crate::refusal::Refusal;
 use crate::step::Standing;
 use crate::step::Step;
 use crate::step::refuse;
@@ -88,10 +88,10 @@ fn through_heading(kept: &mut [u8], count: usize, piece: &[u8]) -> Step
     let in_all = count + first;
     match announce(&kept[..in_all]) {
         Announcement::Unfinished => wait(in_all, first),
-        Announcement::Refused(refusal) => refuse(in_all, first, Fault::Unread(refusal)),
+        Announcement::Refused(refusal) => refuse(in_all, first, Refusal::MessageRefused(refusal)),
         Announcement::Length(whole) => {
             if Feed::ROOM < whole {
-                return refuse(in_all, first, Fault::TooLong);
+                return refuse(in_all, first, Refusal::TooLong);
             }
             fill(kept, in_all, whole, first, &piece[first..])
         }

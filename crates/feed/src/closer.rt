@@ -2,7 +2,7 @@
 // The bytes kept stay as they are, so that they need not be lent.
 ghost use Rattle.feed.specs.Told.{Closes};
 use crate::advancer::begun;
-use crate::fault::Fault;
+use crate::refusal::Refusal;
 use crate::step::Standing;
 use crate::step::Step;
 use crate::step::refuse;
@@ -15,5 +15,5 @@ pub fn close(count: usize, standing: Standing) -> Step
     if begun(count, standing) == 0 {
         return stay(count, standing);
     }
-    refuse(count, 0, Fault::Cut)
+    refuse(count, 0, Refusal::Cut)
 }

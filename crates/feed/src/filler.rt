@@ -7,7 +7,7 @@ ghost use Rattle.envelope.specs.Reading.{reading};
 ghost use Rattle.feed.specs.Helpers.{laidIn, outcomeAt, Announced, toldBeside, beside};
 ghost use Rattle.feed.specs.Told.{toldStep};
 ghost use Rattle.feed.specs.Verdict.{room, settled};
-use crate::fault::Fault;
+use crate::refusal::Refusal;
 use crate::step::Found;
 use crate::step::Standing;
 use crate::step::Step;
@@ -47,7 +47,7 @@ fn finish(message: &[u8], used: usize) -> Step
                 envelope,
             },
         },
-        Reading::Refused(refusal) => refuse(message.len(), used, Fault::Unread(refusal)),
+        Reading::Refused(refusal) => refuse(message.len(), used, Refusal::MessageRefused(refusal)),
     }
 }
 

@@ -2,19 +2,19 @@
 // Rests on the crate `envelope`, by its promises and the laws that it exports.
 pub mod advancer;
 pub mod closer;
-pub mod fault;
 pub mod feeder;
 mod filler;
 pub mod holder;
+pub mod refusal;
 pub mod step;
 
 pub use crate::advancer::advance;
 pub use crate::closer::close;
-pub use crate::fault::Fault;
 pub use crate::feeder::Ended;
 pub use crate::feeder::Feed;
 pub use crate::feeder::Taken;
 pub use crate::holder::held;
+pub use crate::refusal::Refusal;
 pub use crate::step::Found;
 pub use crate::step::Standing;
 pub use crate::step::Step;

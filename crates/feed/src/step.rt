@@ -2,9 +2,9 @@
 // The steps that more than one function takes are made here.
 ghost use mathlib.Core.Path.{_≡_};
 ghost use Rattle.feed.specs.Helpers.{toldBeside, beside, stillBeside};
-ghost use Rattle.feed.specs.Told.{toldFault, toldStanding};
-ghost use Rattle.feed.specs.Verdict.{more, bad};
-use crate::fault::Fault;
+ghost use Rattle.feed.specs.Told.{toldFeedRefusal, toldStanding};
+ghost use Rattle.feed.specs.Verdict.{more, refused};
+use crate::refusal::Refusal;
 use envelope::Envelope;
 
 pub enum Standing {
@@ -12,14 +12,14 @@ pub enum Standing {
     Inside,
     // so many bytes are a message, until the next byte comes
     Whole,
-    Refused(Fault),
+    Refused(Refusal),
 }
 
 pub enum Found {
     Nothing,
     // A whole message. Its bytes stay with the feed until the next byte, and what `read` hands out of them comes along.
     Message { size: usize, envelope: Envelope },
-    Refused(Fault),
+    Refused(Refusal),
 }
 
 // What a call leaves beside the bytes kept, how many bytes it used, and what it found.
@@ -35,7 +35,7 @@ pub(crate) fn stay(count: usize, standing: Standing) -> Step
     ensures { λ r. ⌜ toldBeside r ≡ stillBeside count (toldStanding standing) ⌝ }
 {
     match standing {
-        Standing::Refused(fault) => refuse(count, 0, fault),
+        Standing::Refused(refusal) => refuse(count, 0, refusal),
         Standing::Inside => wait(count, 0),
         Standing::Whole => Step {
             count,
@@ -59,13 +59,13 @@ pub(crate) fn wait(count: usize, used: usize) -> Step
 }
 
 // A refusal is found, and stands.
-pub(crate) fn refuse(count: usize, used: usize, fault: Fault) -> Step
-    ensures { λ r. ⌜ toldBeside r ≡ beside (bad (toldFault fault)) count used ⌝ }
+pub(crate) fn refuse(count: usize, used: usize, refusal: Refusal) -> Step
+    ensures { λ r. ⌜ toldBeside r ≡ beside (refused (toldFeedRefusal refusal)) count used ⌝ }
 {
     Step {
         count,
-        standing: Standing::Refused(fault),
+        standing: Standing::Refused(refusal),
         used,
-        found: Found::Refused(fault),
+        found: Found::Refused(refusal),
     }
 }
