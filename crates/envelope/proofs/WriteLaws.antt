@@ -14,7 +14,7 @@ use Rattle.envelope.specs.Flags.{kindOf, badFlags}
 use Rattle.envelope.specs.Helpers.{pasted, variableLength, Allowed}
 use Rattle.envelope.specs.Layout.{headerSize, fieldSize, largestVariable, largestAddress, largestBody, largestMessage}
 use Rattle.envelope.specs.Message.{RoutingFields, unaddressed, addressed, Given, inFour, headerBytes, variableBytes, variableOf, beforeField, fieldNumber, message}
-use Rattle.envelope.specs.Writing.{hasZero, badEnd, strayEnds, badEnds, bodyTooLong, strayIntegrity, WriteOutcome, written, refused, writing, afterWriting, wrote, refused, writeAnswer, wroteLength, WritesNoLonger, RefusalWritesNothing}
+use Rattle.envelope.specs.Writing.{hasZero, badEnd, strayEnds, badEnds, bodyTooLong, strayIntegrity, WriteOutcome, written, refused, writing, afterWriting, wrote, writeAnswer, wroteLength, WritesNoLonger, RefusalWritesNothing}
 use Rattle.envelope.proofs.BoolLaws.{neither}
 use Rattle.envelope.proofs.PastedLaws.{pasted-more}
 

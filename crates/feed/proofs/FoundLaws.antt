@@ -9,7 +9,7 @@ use lib.Seq.{length-take-le}
 use Rattle.envelope.specs.Fields.{Fields, accepted}
 use Rattle.envelope.specs.Reading.{reading}
 use Rattle.envelope.specs.Told.{toldEnvelope}
-use Rattle.feed.specs.Feeding.{Stand, inside, whole, refused, State, begun, Finding, message, refused, FeedOutcome, closing, findingBy, standing, byteIn, furtherBy, taking, sizeBy}
+use Rattle.feed.specs.Feeding.{Stand, inside, whole, refused, State, begun, Finding, message, FeedOutcome, closing, findingBy, standing, byteIn, furtherBy, taking, sizeBy}
 use Rattle.feed.specs.Messages.{All, none, also, AllFit, Roomy, FoundAreAccepted, FoundIsHeld}
 use Rattle.feed.specs.Stream.{foundBy, foundIn, Course, streaming}
 use Rattle.feed.specs.Told.{toldStanding, toldFeed, toldFound, toldTaken}

@@ -5,7 +5,7 @@ use mathlib.Core.Path.{_≡_, refl, ap, sym, _∙_}
 use Prim.Native.Nat.{ℕ}
 use Rattle.envelope.proofs.OnlyLaws.{only-by-telling, untoldRefusal, untold-refusal, untoldEnvelope, untold-envelope}
 use Rattle.envelope.specs.Promise.{Only₁, Only₂}
-use Rattle.feed.specs.Feeding.{Stand, inside, whole, refused, State, fresh, Finding, nothing, message, refused, FeedOutcome, taking, ending}
+use Rattle.feed.specs.Feeding.{Stand, inside, whole, refused, State, fresh, Finding, nothing, message, FeedOutcome, taking, ending}
 use Rattle.feed.specs.Told.{toldFeedRefusal, toldStanding, toldFeed, toldFound, toldStep, toldTaken, toldEnded, NumbersFeedRefusal, Fresh, Takes, Ends, Advances, Closes, Holds}
 use Rattle.feed.specs.Verdict.{FeedRefusal, reads, tooLong, cut}
 use Rattle.feed.specs.declared.refusal.Refusal.{Refusal as CodeRefusal}

@@ -8,7 +8,7 @@ use native.Mathlib.Omega.{arith}
 use borrow.Author.Tests.{lt-ltb, ltb-true}
 use lib.Dec.{ltb}
 use lib.ListN.{length}
-use Rattle.feed.specs.Feeding.{Stand, inside, whole, refused, State, begunBy, begun, refused, FeedOutcome, withByte, standing, still, byStand, byteIn, furtherBy, taking, ending, endBy}
+use Rattle.feed.specs.Feeding.{Stand, inside, whole, refused, State, begunBy, begun, FeedOutcome, withByte, standing, still, byStand, byteIn, furtherBy, taking, ending, endBy}
 use Rattle.feed.specs.Helpers.{opened, goesOn}
 use Rattle.feed.specs.Verdict.{room, FeedRefusal, cut}
 

@@ -4,7 +4,7 @@ use mathlib.Core.List.{List, [], _∷_}
 use mathlib.Core.Path.{_≡_, refl, ap, sym, _∙_, subst}
 use Prim.Native.Nat.{ℕ, zero, suc, _<_}
 use native.Mathlib.Omega.{arith}
-use Rattle.feed.specs.Feeding.{Stand, inside, whole, refused, State, begunBy, begun, Finding, nothing, refused, FeedOutcome, closing, findingBy, standing, still, furtherBy, taking, ending, endBy}
+use Rattle.feed.specs.Feeding.{Stand, inside, whole, refused, State, begunBy, begun, Finding, nothing, FeedOutcome, closing, findingBy, standing, still, furtherBy, taking, ending, endBy}
 use Rattle.feed.specs.Stopping.{RefusalIsKept, RefusalIsTold, EndIsKept, RefusalStands, RestartIsNew, EmptyPiece, EndBetween, EndInside}
 use Rattle.feed.specs.Told.{toldFeedRefusal, toldStanding, toldFeed, toldFound, toldTaken, toldEnded}
 use Rattle.feed.specs.Verdict.{FeedRefusal, Verdict, more, complete, refused}

@@ -7,7 +7,7 @@ use native.Mathlib.Omega.{arith}
 use lib.ListN.{length, drop, length-drop}
 use Rattle.envelope.specs.Fields.{Fields}
 use Rattle.feed.specs.Cutting.{over, stopped, call, noCalls, callThen, Uses, UsesBytes, SettledBy, LastUsedSettles, Answered, Run, RunsEnd}
-use Rattle.feed.specs.Feeding.{Stand, refused, State, nothing, message, refused, FeedOutcome, closing, findingBy, standing, still, byteIn, furtherBy, taking}
+use Rattle.feed.specs.Feeding.{Stand, refused, State, nothing, message, FeedOutcome, closing, findingBy, standing, still, byteIn, furtherBy, taking}
 use Rattle.feed.specs.Stream.{Course, streaming}
 use Rattle.feed.specs.Told.{toldStanding, toldFeed}
 use Rattle.feed.specs.Verdict.{FeedRefusal, Verdict, more, complete, refused}

@@ -12,7 +12,7 @@ use Rattle.envelope.specs.Reading.{reading}
 use Rattle.envelope.specs.Told.{toldEnvelope}
 use Rattle.envelope.specs.declared.fields.Envelope.{Envelope}
 use Rattle.feed.specs.Cutting.{Came, Calls}
-use Rattle.feed.specs.Feeding.{Stand, whole, refused, State, begun, Finding, nothing, message, refused, FeedOutcome, standing, taking, ending}
+use Rattle.feed.specs.Feeding.{Stand, whole, refused, State, begun, Finding, nothing, message, FeedOutcome, standing, taking, ending}
 use Rattle.feed.specs.Stream.{foundIn}
 use Rattle.feed.specs.Told.{toldFeedRefusal, toldFeed, toldTaken, Fresh, Takes, Holds}
 use Rattle.feed.specs.Verdict.{room, FeedRefusal, numberOf, refused, verdict}

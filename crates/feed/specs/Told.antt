@@ -4,7 +4,7 @@ use Prim.Native.Nat.{ℕ}
 use mathlib.Core.List.{List}
 use mathlib.Core.Path.{_≡_}
 use Rattle.envelope.specs.Told.{toldRefusal, toldEnvelope}
-use Rattle.feed.specs.Feeding.{Stand, inside, whole, refused, State, fresh, Finding, nothing, message, refused, FeedOutcome, taking, ending, holding}
+use Rattle.feed.specs.Feeding.{Stand, inside, whole, refused, State, fresh, Finding, nothing, message, FeedOutcome, taking, ending, holding}
 use Rattle.feed.specs.Verdict.{FeedRefusal, reads, tooLong, cut, numberOf}
 use Rattle.feed.specs.declared.refusal.Refusal.{Refusal as CodeRefusal}
 use Rattle.feed.specs.declared.refusal.Refusal.the-variants.{MessageRefused, TooLong, Cut}

@@ -20,7 +20,7 @@ use Rattle.envelope.specs.Promise.{Bytes}
 use Rattle.envelope.specs.Reading.{reading}
 use Rattle.envelope.specs.Refusals.{plainly}
 use Rattle.envelope.specs.Told.{toldPart, toldEnvelope}
-use Rattle.frame.specs.Wrapping.{WrapOutcome, written, refused, wrapping, acknowledging, putDown, afterWrapping, wrote, refused, wrapAnswer, toldWrapped, Answers}
+use Rattle.frame.specs.Wrapping.{WrapOutcome, written, refused, wrapping, acknowledging, putDown, afterWrapping, wrote, wrapAnswer, toldWrapped, Answers}
 use Rattle.frame.specs.Unwrapping as unwrap
 use Rattle.frame.specs.Wrapping as wrap
 use Rattle.frame.specs.Capturing.{isFrame}

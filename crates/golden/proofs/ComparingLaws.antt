@@ -11,7 +11,7 @@ use lib.ListN.{length}
 use Rattle.envelope.specs.Fields.{Span, Fields}
 use Rattle.envelope.specs.Reading.{reading}
 use Rattle.envelope.specs.Refusals.{Refused, plainly}
-use Rattle.golden.specs.Comparing.{CompareOutcome, refused, withRadio, withRecord, comparing, longer, differing, isProperBeginning, comparingMessages, afterComparing, CompareAnswer, same, different, refused, compareAnswer}
+use Rattle.golden.specs.Comparing.{CompareOutcome, refused, withRadio, withRecord, comparing, longer, differing, isProperBeginning, comparingMessages, afterComparing, CompareAnswer, same, different, compareAnswer}
 use Rattle.golden.specs.File.{badFile, notThere, recordAt, judgedAt}
 use Rattle.golden.specs.Positions.{noted}
 use Rattle.golden.specs.Record.{messageOf, Judged, good, bad}

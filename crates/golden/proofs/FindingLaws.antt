@@ -12,7 +12,7 @@ use Rattle.golden.specs.Checking as check
 use Rattle.golden.specs.File.{badFile, countOf, recordAt, judgedAt}
 use Rattle.golden.specs.Finding.{NameFields, hasName, FindAnswer, decides, findFrom, finding}
 use Rattle.golden.specs.Finding as find
-use Rattle.golden.specs.Helpers.{holding, bad, openedAs, opening, Sight, bad, sought, other, seenAs}
+use Rattle.golden.specs.Helpers.{holding, bad, openedAs, opening, Sight, sought, other, seenAs}
 use Rattle.golden.specs.Record.{storedLength, Judged, good, bad, judging}
 
 -- ---- what opening a record says of its judgement
