@@ -1,17 +1,17 @@
 -- The state that is lent, in the parts that the code takes it in; and that calls from C are the feed's own calls.
--- A refusal's number tells the refusal, so that the storage keeps the state.
+-- A refused's number tells the refused, so that the storage keeps the state.
 use mathlib.Core.List.{List, [], _∷_}
 use mathlib.Core.Path.{_≡_, refl, ap, sym, _∙_}
 use Prim.Native.Nat.{ℕ, zero, suc, _≤_}
 use native.Mathlib.Omega.{arith}
 use lib.ListN.{length, getD, take, drop, take-append-drop, length-append}
 use Rattle.envelope.specs.Told.{toldFault}
-use Rattle.envelope.specs.declared.reader.Fault.{Fault as ReadingFault}
+use Rattle.envelope.specs.declared.reader.Fault.{Fault}
 use Rattle.envelope.specs.declared.reader.Fault.the-variants.{TooShort, WrongVersion, BadFlags, BadVariableSize, WrongLength, BadAddresses, BadIntegrity}
-use Rattle.feed.specs.Feeding.{State, refused, Outcome, taking, ending, sizeBy, holding}
+use Rattle.feed.specs.Feeding.{State, refused, FeedOutcome, taking, ending, sizeBy, holding}
 use Rattle.feed.specs.Told.{toldStanding, stateOf}
 use Rattle.feed.specs.Verdict.{reads}
-use Rattle.feed.specs.declared.fault.Fault.the-variants.{Unread, TooLong, Cut}
+use Rattle.feed.specs.declared.refusal.Refusal.the-variants.{MessageRefused, TooLong, Cut}
 use Rattle.feed.specs.declared.step.Standing.{Standing}
 use Rattle.feed.specs.declared.step.Standing.the-variants.{Inside, Whole, Refused}
 use Rattle.exports.specs.Feeds.{standingNumber, standingFor, stateNumbers, stateFor, foundSlots, lentAfter, StorageKeepsTheState, TakeForCIsTake, EndForCIsEnd, RestartForCIsNew, MessageForCIsHeld}
@@ -28,7 +28,7 @@ state-lent kept numbers standing e = λ i. record { kept = kept; count = getD nu
 pub held-short : (kept numbers : List ℕ) (standing : Standing) → length (holding (stateOf kept (getD numbers 0 0) standing)) ≤ length kept
 held-short kept numbers standing = length-take-most (sizeBy (toldStanding standing) (getD numbers 0 0)) kept
 
-reading-kept : (f : ReadingFault) → standingFor (toldFault f) ≡ refused (reads (record { number = toldFault f }))
+reading-kept : (f : Fault) → standingFor (toldFault f) ≡ refused (reads (record { number = toldFault f }))
 reading-kept TooShort = refl
 reading-kept WrongVersion = refl
 reading-kept BadFlags = refl
@@ -40,7 +40,7 @@ reading-kept BadIntegrity = refl
 standing-kept : (s : Standing) → standingFor (standingNumber (toldStanding s)) ≡ toldStanding s
 standing-kept Inside = refl
 standing-kept Whole = refl
-standing-kept (Refused (Unread r)) = reading-kept (r .fault)
+standing-kept (Refused (MessageRefused r)) = reading-kept (r .fault)
 standing-kept (Refused TooLong) = refl
 standing-kept (Refused Cut) = refl
 
@@ -50,15 +50,15 @@ storage-keeps-the-state f = λ i. record { kept = f .kept; count = f .count; sta
 pub take-for-c-is-take : TakeForCIsTake
 take-for-c-is-take f entry piece r exit t stores kept p =
     let takes = ap (λ (s : State). taking s piece) stores ∙ sym p in (
-      kept .0 ∙ ap (λ (o : Outcome). word (foundSlots (o .finding) (o .used))) takes,
-      kept .1 ∙ ap (λ (o : Outcome). lentAfter o (entry .fields)) takes,
+      kept .0 ∙ ap (λ (o : FeedOutcome). word (foundSlots (o .finding) (o .used))) takes,
+      kept .1 ∙ ap (λ (o : FeedOutcome). lentAfter o (entry .fields)) takes,
     )
 
 pub end-for-c-is-end : EndForCIsEnd
 end-for-c-is-end f kept entry r exit e stores promise p =
     let ends = ap ending stores ∙ sym p in (
-      promise kept .0 ∙ ap (λ (o : Outcome). word (foundSlots (o .finding) 0)) ends,
-      promise kept .1 ∙ ap (λ (o : Outcome). stateNumbers (o .state)) ends,
+      promise kept .0 ∙ ap (λ (o : FeedOutcome). word (foundSlots (o .finding) 0)) ends,
+      promise kept .1 ∙ ap (λ (o : FeedOutcome). stateNumbers (o .state)) ends,
     )
 
 pub restart-for-c-is-new : RestartForCIsNew

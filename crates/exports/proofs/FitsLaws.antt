@@ -5,13 +5,12 @@ use mathlib.Core.Path.{_≡_, refl}
 use Prim.Native.Nat.{ℕ, _+_, _*_, _/_, _%_, _≤_, _<_, _^_}
 use native.Mathlib.Omega.{arith}
 use Rattle.envelope.specs.Layout.{largestMessage}
-use Rattle.envelope.specs.Rewriting.{RewriteAnswer, rewrote, unread, rewriting, rewroteLength}
-use Rattle.envelope.specs.Rewriting as rewrite
+use Rattle.envelope.specs.Rewriting.{RewriteAnswer, rewrote, refused, rewriting, rewroteLength}
 use Rattle.envelope.specs.Message.{Given}
 use Rattle.envelope.specs.Promise.{Bytes}
-use Rattle.envelope.specs.Writing.{WriteAnswer, wrote, barred, writing, wroteLength}
+use Rattle.envelope.specs.Writing.{WriteAnswer, wrote, refused, writing, wroteLength}
 use Rattle.envelope.specs.Writing as write
-use Rattle.feed.specs.Feeding.{State, Finding, nothing, Outcome, ending}
+use Rattle.feed.specs.Feeding.{State, Finding, nothing, FeedOutcome, ending}
 use Rattle.feed.specs.Feeding as feed
 use Rattle.feed.specs.Messages.{foundSize, Few}
 use Rattle.feed.proofs.FewLaws.{end-finds-no-message}
@@ -23,13 +22,13 @@ use Rattle.frame.specs.Wrapping.{WrapAnswer, wrapping, acknowledging}
 use Rattle.frame.specs.Wrapping as wrap
 use Rattle.frame.proofs.SizeLaws.{unwraps-no-longer, wraps-no-longer, acknowledges-no-longer}
 use Rattle.golden.specs.Checking.{CheckAnswer, counted, refused, checking}
-use Rattle.golden.specs.Comparing.{CompareAnswer, same, different, unlike, comparing, answerOf}
+use Rattle.golden.specs.Comparing.{CompareAnswer, same, different, refused, comparing, compareAnswer}
 use Rattle.golden.specs.File.{mostRecords}
 use Rattle.golden.specs.Finding.{NameFields, FindAnswer, found, finding}
 use Rattle.golden.specs.Finding as find
 use Rattle.golden.specs.Listing.{CountAnswer, counting}
 use Rattle.golden.specs.Listing as listing
-use Rattle.golden.specs.Record.{longestMessage}
+use Rattle.golden.specs.Record.{messageRoom}
 use Rattle.golden.specs.Stepping.{StepAnswer, message, end, stepAt}
 use Rattle.golden.specs.Stepping as step
 use Rattle.golden.specs.Theorems.{checkedNumber, countedNumber, openedNumber, foundNumber, reachedSize, differenceTotal}
@@ -44,15 +43,14 @@ use Rattle.exports.specs.Word.{word, WordTellsItsSlots}
 
 write-in : (a : WriteAnswer) → wroteLength a ≤ largestMessage → writeSlots a .value < 2 ^ 32
 write-in (wrote n) h = omega (arith, h)
-write-in (barred n) h = omega arith
+write-in (refused n) h = omega arith
 
-pub write-fits : (g : Given) (room : ℕ) (a : WriteAnswer) → a ≡ write.answerOf (writing g room) → writeSlots a .value < 2 ^ 32
-write-fits g room a e = rw e (write-in (write.answerOf (writing g room)) (writes-no-longer g room))
+pub write-fits : (g : Given) (room : ℕ) (a : WriteAnswer) → a ≡ write.writeAnswer (writing g room) → writeSlots a .value < 2 ^ 32
+write-fits g room a e = rw e (write-in (write.writeAnswer (writing g room)) (writes-no-longer g room))
 
 rewrite-in : (a : RewriteAnswer) → rewroteLength a ≤ largestMessage → rewriteSlots a .value < 2 ^ 32
 rewrite-in (rewrote n) h = omega (arith, h)
-rewrite-in (unread r) h = omega arith
-rewrite-in (rewrite.barred n) h = omega arith
+rewrite-in (refused r) h = omega arith
 
 pub rewrite-fits : (s : List ℕ) (room : ℕ) (a : RewriteAnswer) → Bytes s → a ≡ rewriting s room → rewriteSlots a .value < 2 ^ 32
 rewrite-fits s room a bytes e = rw e (rewrite-in (rewriting s room) (rewrites-no-longer s room bytes))
@@ -80,7 +78,7 @@ pub find-fits : (f : List ℕ) (name : NameFields) (a : FindAnswer) → a ≡ fi
     → (findSlots a .count < 2 ^ 16) × (findSlots a .value < 2 ^ 32)
 find-fits f name a e = rw e (find-in (finding f name) (find-opens-few f name))
 
-step-in : (a : StepAnswer) (on : ℕ) → reachedSize a ≤ longestMessage → stepSlots a on .value < 2 ^ 32
+step-in : (a : StepAnswer) (on : ℕ) → reachedSize a ≤ messageRoom → stepSlots a on .value < 2 ^ 32
 step-in (message part) on h = omega (arith, h)
 step-in (step.refused r) on h = omega arith
 step-in end on h = omega arith
@@ -91,40 +89,40 @@ step-fits f n a on e = rw e (step-in (stepAt f n) on (step-reaches-short f n))
 compare-in : (a : CompareAnswer) → differenceTotal a ≤ largestMessage → compareSlots a .value < 2 ^ 32
 compare-in same h = omega arith
 compare-in (different n) h = omega (arith, h)
-compare-in (unlike r) h = omega arith
+compare-in (refused r) h = omega arith
 
-pub compare-fits : (f : List ℕ) (n : ℕ) (radio : List ℕ) (a : CompareAnswer) → Bytes radio → a ≡ answerOf (comparing f n radio)
+pub compare-fits : (f : List ℕ) (n : ℕ) (radio : List ℕ) (a : CompareAnswer) → Bytes radio → a ≡ compareAnswer (comparing f n radio)
     → compareSlots a .value < 2 ^ 32
-compare-fits f n radio a bytes e = rw e (compare-in (answerOf (comparing f n radio)) (compare-totals-few f n radio bytes))
+compare-fits f n radio a bytes e = rw e (compare-in (compareAnswer (comparing f n radio)) (compare-totals-few f n radio bytes))
 
 found-value : (a : Finding) (used : ℕ) → foundSlots a used .value ≡ foundSize a
 found-value nothing used = refl
 found-value (feed.message n f) used = refl
-found-value (feed.refusal f) used = refl
+found-value (feed.refused f) used = refl
 
-pub take-fits : (o : Outcome) → Few o → (o .used < 2 ^ 16) × (foundSlots (o .finding) (o .used) .value < 2 ^ 32)
+pub take-fits : (o : FeedOutcome) → Few o → (o .used < 2 ^ 16) × (foundSlots (o .finding) (o .used) .value < 2 ^ 32)
 take-fits o few = (omega (arith, few .used), omega (arith, few .size, found-value (o .finding) (o .used)))
 
-pub end-fits : (s : State) (o : Outcome) → o ≡ ending s → foundSlots (o .finding) 0 .value < 2 ^ 32
+pub end-fits : (s : State) (o : FeedOutcome) → o ≡ ending s → foundSlots (o .finding) 0 .value < 2 ^ 32
 end-fits s o e = rw e (omega (arith, end-finds-no-message s, found-value (ending s .finding) 0))
 
 unwrap-in : (a : UnwrapAnswer) → messageSize a ≤ largestMessage → unwrapSlots a .value < 2 ^ 32
 unwrap-in (unwrap.message commid p f) h = omega (arith, h)
 unwrap-in (unwrap.acknowledgment commid acknowledged) h = omega arith
-unwrap-in (unwrap.declined r) h = omega arith
+unwrap-in (unwrap.refused r) h = omega arith
 
 pub unwrap-fits : (s : List ℕ) (a : UnwrapAnswer) → Bytes s → a ≡ unwrapping s → unwrapSlots a .value < 2 ^ 32
 unwrap-fits s a bytes e = rw e (unwrap-in (unwrapping s) (unwraps-no-longer s bytes))
 
 wrap-in : (a : WrapAnswer) → wroteFrame a ≤ leastSize + largestMessage → wrapSlots a .value < 2 ^ 32
 wrap-in (wrap.wrote n) h = omega (arith, h)
-wrap-in (wrap.barred r) h = omega arith
+wrap-in (wrap.refused r) h = omega arith
 
-pub wrap-fits : (m : List ℕ) (commid room : ℕ) (a : WrapAnswer) → Bytes m → a ≡ wrap.answerOf (wrapping m commid room) → wrapSlots a .value < 2 ^ 32
-wrap-fits m commid room a bytes e = rw e (wrap-in (wrap.answerOf (wrapping m commid room)) (wraps-no-longer m commid room bytes))
+pub wrap-fits : (m : List ℕ) (commid room : ℕ) (a : WrapAnswer) → Bytes m → a ≡ wrap.wrapAnswer (wrapping m commid room) → wrapSlots a .value < 2 ^ 32
+wrap-fits m commid room a bytes e = rw e (wrap-in (wrap.wrapAnswer (wrapping m commid room)) (wraps-no-longer m commid room bytes))
 
-pub acknowledge-fits : (commid acknowledged room : ℕ) (a : WrapAnswer) → a ≡ wrap.answerOf (acknowledging commid acknowledged room) → wrapSlots a .value < 2 ^ 32
-acknowledge-fits commid acknowledged room a e = rw e (wrap-in (wrap.answerOf (acknowledging commid acknowledged room)) (acknowledges-no-longer commid acknowledged room))
+pub acknowledge-fits : (commid acknowledged room : ℕ) (a : WrapAnswer) → a ≡ wrap.wrapAnswer (acknowledging commid acknowledged room) → wrapSlots a .value < 2 ^ 32
+acknowledge-fits commid acknowledged room a e = rw e (wrap-in (wrap.wrapAnswer (acknowledging commid acknowledged room)) (acknowledges-no-longer commid acknowledged room))
 
 -- ---- the slots come back
 

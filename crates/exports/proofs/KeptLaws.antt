@@ -8,17 +8,16 @@ use lib.Dec.{eqb}
 use lib.ListN.{length}
 use Rattle.envelope.specs.Fields.{Answer, accepted, refused}
 use Rattle.envelope.specs.Reading.{reading}
-use Rattle.envelope.specs.Rewriting.{RewriteAnswer, rewrote, unread, rewriting, rewritten}
-use Rattle.envelope.specs.Rewriting as rewrite
+use Rattle.envelope.specs.Rewriting.{RewriteAnswer, rewrote, refused, rewriting, afterRewriting}
 use Rattle.envelope.specs.Writing as write
-use Rattle.feed.specs.Feeding.{Finding, nothing, message, refusal}
+use Rattle.feed.specs.Feeding.{Finding, nothing, message, refused}
 use Rattle.frame.specs.Unwrapping.{UnwrapAnswer, unwrapping}
 use Rattle.frame.specs.Unwrapping as unwrap
 use Rattle.frame.specs.Wrapping.{wrapping, acknowledging}
 use Rattle.frame.specs.Wrapping as wrap
-use Rattle.golden.specs.Comparing.{comparing, listAfter}
+use Rattle.golden.specs.Comparing.{comparing, afterComparing}
 use Rattle.golden.specs.Comparing as compare
-use Rattle.golden.specs.Listing.{EntryAnswer, line, refusedLine, entryAt}
+use Rattle.golden.specs.Listing.{EntryAnswer, line, refused, entryAt}
 use Rattle.golden.specs.Making.{MakeAnswer, made, making}
 use Rattle.golden.specs.Making as make
 use Rattle.golden.specs.Stepping.{StepAnswer, end, stepAt, nextAfter}
@@ -44,24 +43,23 @@ kept-read (refused n) entry exit r e x h = x
 pub read-keeps : ReadKeeps
 read-keeps bytes entry r exit p h = kept-read (reading bytes) entry exit r (p .0) (p .1) h
 
-kept-write : (o : write.Outcome) (entry exit : List ℕ) (r : ℕ) → r ≡ word (writeSlots (write.answerOf o)) → exit ≡ write.bufferAfter o entry → IsRefusal r → exit ≡ entry
+kept-write : (o : write.WriteOutcome) (entry exit : List ℕ) (r : ℕ) → r ≡ word (writeSlots (write.writeAnswer o)) → exit ≡ write.afterWriting o entry → IsRefusal r → exit ≡ entry
 kept-write (write.written m) entry exit r e x h = absurd (no-refusal _ r refl e h)
 kept-write (write.refused n) entry exit r e x h = x
 
 pub write-keeps : WriteKeeps
 write-keeps g entry r exit p h = kept-write (write.writing g (length entry)) entry exit r (p .0) (p .1) h
 
-kept-rewrite : (a : RewriteAnswer) (s entry exit : List ℕ) (r : ℕ) → r ≡ word (rewriteSlots a) → exit ≡ rewritten a s entry → IsRefusal r → exit ≡ entry
+kept-rewrite : (a : RewriteAnswer) (s entry exit : List ℕ) (r : ℕ) → r ≡ word (rewriteSlots a) → exit ≡ afterRewriting a s entry → IsRefusal r → exit ≡ entry
 kept-rewrite (rewrote n) s entry exit r e x h = absurd (no-refusal _ r refl e h)
-kept-rewrite (unread n) s entry exit r e x h = x
-kept-rewrite (rewrite.barred n) s entry exit r e x h = x
+kept-rewrite (refused n) s entry exit r e x h = x
 
 pub rewrite-keeps : RewriteKeeps
 rewrite-keeps bytes entry r exit p h = kept-rewrite (rewriting bytes (length entry)) bytes entry exit r (p .0) (p .1) h
 
 kept-line : (a : EntryAnswer) (entry exit : List ℕ) (r : ℕ) → r ≡ word (lineSlots a) → exit ≡ lineAfter a entry → IsRefusal r → exit ≡ entry
 kept-line (line t n s) entry exit r e x h = absurd (no-refusal _ r refl e h)
-kept-line (refusedLine n) entry exit r e x h = x
+kept-line (refused n) entry exit r e x h = x
 
 pub line-keeps : LineKeeps
 line-keeps f n entry r exit p h = kept-line (entryAt f n) entry exit r (p .0) (p .1) h
@@ -78,17 +76,17 @@ told-done : (b : Bool) (n : ℕ) → compareSlots (cond b compare.same (compare.
 told-done true n = refl
 told-done false n = refl
 
-kept-compare : (o : compare.Outcome) (entry exit : List ℕ) (r : ℕ) → r ≡ word (compareSlots (compare.answerOf o)) → exit ≡ listAfter o entry → IsRefusal r → exit ≡ entry
-unfolding compare.answerOf listAfter
+kept-compare : (o : compare.CompareOutcome) (entry exit : List ℕ) (r : ℕ) → r ≡ word (compareSlots (compare.compareAnswer o)) → exit ≡ afterComparing o entry → IsRefusal r → exit ≡ entry
+unfolding compare.compareAnswer afterComparing
 kept-compare (compare.positions ks) entry exit r e x h = absurd (no-refusal _ r (told-done (eqb (length ks) 0) (length ks)) e h)
-kept-compare (compare.declined n) entry exit r e x h = x
+kept-compare (compare.refused n) entry exit r e x h = x
 
 pub compare-keeps : CompareKeeps
 compare-keeps f n radio entry r exit p h = kept-compare (comparing f n radio) entry exit r (p .0) (p .1) h
 
-kept-make : (a : MakeAnswer) (m entry exit : List ℕ) (r : ℕ) → r ≡ word (makeSlots a) → exit ≡ make.bufferAfter a m entry → IsRefusal r → exit ≡ entry
+kept-make : (a : MakeAnswer) (m entry exit : List ℕ) (r : ℕ) → r ≡ word (makeSlots a) → exit ≡ make.afterMaking a m entry → IsRefusal r → exit ≡ entry
 kept-make made m entry exit r e x h = absurd (no-refusal _ r refl e h)
-kept-make (make.declined n) m entry exit r e x h = x
+kept-make (make.refused n) m entry exit r e x h = x
 
 pub make-keeps : MakeKeeps
 make-keeps m entry r exit p h = kept-make (making m (length entry)) m entry exit r (p .0) (p .1) h
@@ -96,14 +94,14 @@ make-keeps m entry r exit p h = kept-make (making m (length entry)) m entry exit
 kept-unwrap : (a : UnwrapAnswer) (entry exit : FrameLent) (r : ℕ) → r ≡ word (unwrapSlots a) → exit ≡ lentAfterUnwrapping a entry → IsRefusal r → exit ≡ entry
 kept-unwrap (unwrap.message c p f) entry exit r e x h = absurd (no-refusal _ r refl e h)
 kept-unwrap (unwrap.acknowledgment c k) entry exit r e x h = absurd (no-refusal _ r refl e h)
-kept-unwrap (unwrap.declined n) entry exit r e x h = x
+kept-unwrap (unwrap.refused n) entry exit r e x h = x
 
 pub unwrap-keeps : UnwrapKeeps
 unwrap-keeps bytes entry r exit p h = kept-unwrap (unwrapping bytes) entry exit r (p .0) (p .1) h
 
-kept-frame : (o : wrap.Outcome) (entry : List ℕ) → KeptOnRefusal (WritesFrameForC o entry) entry
+kept-frame : (o : wrap.WrapOutcome) (entry : List ℕ) → KeptOnRefusal (WritesFrameForC o entry) entry
 kept-frame (wrap.written s) entry r exit p h = absurd (no-refusal _ r refl (p .0) h)
-kept-frame (wrap.declined n) entry r exit p h = p .1
+kept-frame (wrap.refused n) entry r exit p h = p .1
 
 pub wrap-keeps : WrapKeeps
 wrap-keeps m commid entry = kept-frame (wrapping m commid (length entry)) entry
@@ -114,7 +112,7 @@ acknowledge-keeps commid acknowledged entry = kept-frame (acknowledging commid a
 kept-fields : (a : Finding) (used : ℕ) (entry exit : List ℕ) (r : ℕ) → r ≡ word (foundSlots a used) → exit ≡ fieldsFound a entry → IsRefusal r → exit ≡ entry
 kept-fields nothing used entry exit r e x h = x
 kept-fields (message n f) used entry exit r e x h = absurd (no-refusal _ r refl e h)
-kept-fields (refusal f) used entry exit r e x h = x
+kept-fields (refused f) used entry exit r e x h = x
 
 pub take-keeps-fields : TakeKeepsFields
 take-keeps-fields entry piece r exit p h =

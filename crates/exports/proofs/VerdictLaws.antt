@@ -12,7 +12,7 @@ use Rattle.judge.proofs.AgreementLaws.{readers-agree}
 use Rattle.exports.proofs.FitsLaws.{word-tells-its-slots}
 use Rattle.exports.specs.Envelopes.{readSlots}
 use Rattle.exports.specs.Verdicts.{judgeSlots, JudgeForCTellsReading}
-use Rattle.exports.specs.Word.{Slots, word, unword, refusal}
+use Rattle.exports.specs.Word.{Slots, word, unword, plainSlots}
 
 listed-fits : (a : RuleAnswer) (n : ℕ) (rest : List ℕ) → n < 2 ^ 8 → lowestOf rest < 2 ^ 8 → lowestOf (listed a n rest) < 2 ^ 8
 listed-fits kept n rest h tail = tail
@@ -29,7 +29,7 @@ lowest-fits j =
     (listed-fits (j .addresses) 6 _ (omega arith)
     (listed-fits (j .integrity) 7 [] (omega arith) (omega arith)))))))
 
-read-slots : (a : Answer) → readSlots a ≡ refusal (readingNumber a)
+read-slots : (a : Answer) → readSlots a ≡ plainSlots (readingNumber a)
 read-slots (accepted f) = refl
 read-slots (refused r) = refl
 
@@ -40,7 +40,7 @@ judge-for-c-tells-reading bytes fields after answer judgement verdicts reads jud
     let told : unword judgement ≡ judgeSlots (judging bytes) =
     ap unword (judges .0)
     ∙ word-tells-its-slots (judgeSlots (judging bytes)) (record { number = omega arith; reading = fits; count = omega arith; value = omega arith }) in
-    let answered : unword answer ≡ refusal (readingNumber (reading bytes)) =
+    let answered : unword answer ≡ plainSlots (readingNumber (reading bytes)) =
     ap unword (reads .0 ∙ ap word (read-slots (reading bytes)))
-    ∙ word-tells-its-slots (refusal (readingNumber (reading bytes))) (record { number = omega (arith, agree, fits); reading = omega arith; count = omega arith; value = omega arith }) in
+    ∙ word-tells-its-slots (plainSlots (readingNumber (reading bytes))) (record { number = omega (arith, agree, fits); reading = omega arith; count = omega arith; value = omega arith }) in
     ap (λ (s : Slots). s .reading) told ∙ agree ∙ sym (ap (λ (s : Slots). s .number) answered)

@@ -12,11 +12,12 @@ use Rattle.envelope.specs.Message.{RoutingFields, unaddressed, addressed, Given
 use Rattle.envelope.specs.Qos.{QosFields, QosAnswer, joined, splitting, joining}
 use Rattle.envelope.specs.Qos as qos
 use Rattle.envelope.specs.Reading.{reading}
-use Rattle.envelope.specs.Rewriting.{RewriteAnswer, rewrote, unread, rewriting, rewritten}
+use Rattle.envelope.specs.Rewriting.{RewriteAnswer, rewrote, rewriting, afterRewriting}
 use Rattle.envelope.specs.Rewriting as rewriting
 use Rattle.envelope.specs.Sequence.{SequenceAnswer, repeat, next, ahead, behind, distance, sequenceOf}
-use Rattle.envelope.specs.Writing.{WriteAnswer, wrote, barred, writing, answerOf, bufferAfter}
-use Rattle.exports.specs.Word.{Slots, slots, word, done, sized, refusal}
+use Rattle.envelope.specs.Writing.{WriteAnswer, wrote, writing, writeAnswer, afterWriting}
+use Rattle.envelope.specs.Writing as write
+use Rattle.exports.specs.Word.{Slots, slots, word, done, sized, plainSlots, readingSlots}
 
 -- ---- reading: sixteen numbers, in the order of the message
 
@@ -76,7 +77,7 @@ fieldNumbers f =
 
 abbrev pub readSlots : Answer → Slots
 readSlots (accepted f) = done
-readSlots (refused r) = refusal (r .number)
+readSlots (refused r) = readingSlots r
 
 abbrev pub fieldsAfter : Answer → List ℕ → List ℕ
 fieldsAfter (accepted f) entry = fieldNumbers f
@@ -94,7 +95,7 @@ routingFor given ttl qos = cond (eqb given 0) unaddressed (addressed ttl qos)
 
 abbrev pub writeSlots : WriteAnswer → Slots
 writeSlots (wrote n) = sized n
-writeSlots (barred n) = refusal n
+writeSlots (write.refused n) = plainSlots n
 
 -- the numbers and slices of a call, as what a sender gives
 abbrev pub givenForC : (messageType version flags number time given ttl qos : ℕ) (source destination body : List ℕ) → ℕ → Given
@@ -111,17 +112,16 @@ givenForC messageType version flags number time given ttl qos source destination
 -- what `morlewen_write` promises
 abbrev pub WritesForC : Given → List ℕ → ℕ → List ℕ → Type 0
 WritesForC g entry r exit =
-    (r ≡ word (writeSlots (answerOf (writing g (length entry))))) × (exit ≡ bufferAfter (writing g (length entry)) entry)
+    (r ≡ word (writeSlots (writeAnswer (writing g (length entry))))) × (exit ≡ afterWriting (writing g (length entry)) entry)
 
 abbrev pub rewriteSlots : RewriteAnswer → Slots
 rewriteSlots (rewrote n) = sized n
-rewriteSlots (unread r) = refusal (r .number)
-rewriteSlots (rewriting.barred n) = refusal n
+rewriteSlots (rewriting.refused r) = readingSlots r
 
 -- what `morlewen_rewrite` promises
 abbrev pub RewritesForC : List ℕ → List ℕ → ℕ → List ℕ → Type 0
 RewritesForC s entry r exit =
-    (r ≡ word (rewriteSlots (rewriting s (length entry)))) × (exit ≡ rewritten (rewriting s (length entry)) s entry)
+    (r ≡ word (rewriteSlots (rewriting s (length entry)))) × (exit ≡ afterRewriting (rewriting s (length entry)) s entry)
 
 -- ---- QoS
 
@@ -134,7 +134,7 @@ SplitsForC q exit = exit ≡ partNumbers (splitting q)
 
 abbrev pub joinSlots : QosAnswer → Slots
 joinSlots (joined q) = sized q
-joinSlots (qos.refused n) = refusal n
+joinSlots (qos.refused n) = plainSlots n
 
 abbrev pub qosFor : (serviceRequest specialHandling networkPreference priority class : ℕ) → QosFields
 qosFor serviceRequest specialHandling networkPreference priority class =

@@ -6,7 +6,7 @@ use mathlib.Core.List.{List, [], _∷_}
 use mathlib.Core.Path.{_≡_}
 use lib.Dec.{eqb, ltb}
 use lib.ListN.{length, getD, take}
-use Rattle.feed.specs.Feeding.{Stand, inside, whole, refused, State, fresh, Finding, nothing, message, refusal, Outcome, taking, ending, holding}
+use Rattle.feed.specs.Feeding.{Stand, inside, whole, refused, State, fresh, Finding, nothing, message, FeedOutcome, taking, ending, holding}
 use Rattle.feed.specs.Told.{toldFeed, toldFound, Fresh, Takes, Ends, Holds}
 use Rattle.feed.specs.Verdict.{reads, tooLong, cut, numberOf}
 use Rattle.feed.specs.declared.feeder.Ended.{Ended}
@@ -40,12 +40,12 @@ stateFor kept numbers = record { kept = kept; count = getD numbers 0 0; stand = 
 abbrev pub foundSlots : Finding → ℕ → Slots
 foundSlots nothing used = slots 0 0 used 0
 foundSlots (message n f) used = slots 0 0 used n
-foundSlots (refusal f) used = slots (numberOf f) 0 used 0
+foundSlots (refused f) used = slots (numberOf f) 0 used 0
 
 abbrev pub fieldsFound : Finding → List ℕ → List ℕ
 fieldsFound nothing entry = entry
 fieldsFound (message n f) entry = fieldNumbers f
-fieldsFound (refusal f) entry = entry
+fieldsFound (refused f) entry = entry
 
 -- what is lent to `morlewen_feed_take`, before it or after it
 pub record Lent : Type 0 where
@@ -56,10 +56,10 @@ pub record Lent : Type 0 where
 abbrev pub lent : (kept numbers fields : List ℕ) → Lent
 lent kept numbers fields = record { kept = kept; numbers = numbers; fields = fields }
 
-abbrev pub lentAfter : Outcome → List ℕ → Lent
+abbrev pub lentAfter : FeedOutcome → List ℕ → Lent
 lentAfter o fields = lent (o .state .kept) (stateNumbers (o .state)) (fieldsFound (o .finding) fields)
 
-abbrev pub takingFor : Lent → List ℕ → Outcome
+abbrev pub takingFor : Lent → List ℕ → FeedOutcome
 takingFor entry piece = taking (stateFor (entry .kept) (entry .numbers)) piece
 
 -- what `morlewen_feed_take` promises
@@ -70,7 +70,7 @@ TakesForC entry piece r exit =
 
 -- ---- end: the bytes kept stay, whatever they are
 
-abbrev pub endingFor : (kept numbers : List ℕ) → Outcome
+abbrev pub endingFor : (kept numbers : List ℕ) → FeedOutcome
 endingFor kept numbers = ending (stateFor kept numbers)
 
 -- what `morlewen_feed_end` promises

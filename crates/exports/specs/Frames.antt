@@ -5,35 +5,29 @@ use mathlib.Core.List.{List, [], _∷_}
 use mathlib.Core.Path.{_≡_}
 use lib.ListN.{length}
 use Rattle.frame.specs.Layout.{dataType, acknowledgmentType}
-use Rattle.frame.specs.Refusal.{Refused, RefusalNumbers, numbersOf}
-use Rattle.frame.specs.Unwrapping.{UnwrapAnswer, message, acknowledgment, declined, unwrapping}
-use Rattle.frame.specs.Wrapping.{Outcome, WrapAnswer, wrote, barred, answerOf, bufferAfter, wrapping, acknowledging}
+use Rattle.frame.specs.Unwrapping.{UnwrapAnswer, message, acknowledgment, refused, unwrapping}
+use Rattle.frame.specs.Wrapping.{WrapOutcome, WrapAnswer, wrote, wrapAnswer, afterWrapping, wrapping, acknowledging}
+use Rattle.frame.specs.Wrapping as wrap
 use Rattle.exports.specs.Envelopes.{fieldNumbers}
-use Rattle.exports.specs.Word.{Slots, slots, word, sized}
-
-abbrev pub numbersRefused : RefusalNumbers → Slots
-numbersRefused n = slots (n .number) (n .reading) 0 0
-
-abbrev pub frameRefused : Refused → Slots
-frameRefused r = numbersRefused (numbersOf r)
+use Rattle.exports.specs.Word.{Slots, slots, word, sized, refusedWith}
 
 -- ---- unwrapping: the count is the frame's type, the value the message's size, 0 of an acknowledgment
 
 abbrev pub unwrapSlots : UnwrapAnswer → Slots
 unwrapSlots (message commid p f) = slots 0 0 dataType (p .size)
 unwrapSlots (acknowledgment commid acknowledged) = slots 0 0 acknowledgmentType 0
-unwrapSlots (declined r) = frameRefused r
+unwrapSlots (refused r) = refusedWith r 0
 
 -- the frame's own COMMID, and the acknowledged one, 0 where none is
 abbrev pub commidsAfter : UnwrapAnswer → List ℕ → List ℕ
 commidsAfter (message commid p f) entry = commid ∷ 0 ∷ []
 commidsAfter (acknowledgment commid acknowledged) entry = commid ∷ acknowledged ∷ []
-commidsAfter (declined r) entry = entry
+commidsAfter (refused r) entry = entry
 
 abbrev pub messageFields : UnwrapAnswer → List ℕ → List ℕ
 messageFields (message commid p f) entry = fieldNumbers f
 messageFields (acknowledgment commid acknowledged) entry = entry
-messageFields (declined r) entry = entry
+messageFields (refused r) entry = entry
 
 -- what is lent to `morlewen_unwrap`, before it or after it
 pub record FrameLent : Type 0 where
@@ -54,11 +48,11 @@ UnwrapsForC bytes entry r exit = (r ≡ word (unwrapSlots (unwrapping bytes))) �
 
 abbrev pub wrapSlots : WrapAnswer → Slots
 wrapSlots (wrote n) = sized n
-wrapSlots (barred r) = frameRefused r
+wrapSlots (wrap.refused r) = refusedWith r 0
 
 -- an outcome told in a word, and the buffer afterwards
-abbrev pub WritesFrameForC : Outcome → List ℕ → ℕ → List ℕ → Type 0
-WritesFrameForC o entry r exit = (r ≡ word (wrapSlots (answerOf o))) × (exit ≡ bufferAfter o entry)
+abbrev pub WritesFrameForC : WrapOutcome → List ℕ → ℕ → List ℕ → Type 0
+WritesFrameForC o entry r exit = (r ≡ word (wrapSlots (wrapAnswer o))) × (exit ≡ afterWrapping o entry)
 
 -- what `morlewen_wrap` promises
 abbrev pub WrapsForC : List ℕ → ℕ → List ℕ → ℕ → List ℕ → Type 0

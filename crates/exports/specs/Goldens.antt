@@ -5,12 +5,14 @@ use mathlib.Core.List.{List, [], _∷_}
 use mathlib.Core.Path.{_≡_}
 use lib.ListN.{length}
 use Rattle.golden.specs.Checking.{CheckAnswer, counted, refused, checking}
-use Rattle.golden.specs.Comparing.{CompareAnswer, same, different, unlike, comparing, answerOf, listAfter}
+use Rattle.golden.specs.Comparing.{CompareAnswer, same, different, comparing, compareAnswer, afterComparing}
+use Rattle.golden.specs.Comparing as compare
 use Rattle.golden.specs.Finding.{NameFields, FindAnswer, found, finding}
 use Rattle.golden.specs.Finding as find
-use Rattle.golden.specs.Listing.{CountAnswer, counting, EntryAnswer, line, refusedLine, entryAt}
+use Rattle.golden.specs.Listing.{CountAnswer, counting, EntryAnswer, line, entryAt}
 use Rattle.golden.specs.Listing as listing
-use Rattle.golden.specs.Making.{MakeAnswer, made, declined, making, bufferAfter}
+use Rattle.golden.specs.Making.{MakeAnswer, made, making, afterMaking}
+use Rattle.golden.specs.Making as make
 use Rattle.golden.specs.Stepping.{StepAnswer, message, end, stepAt, nextAfter}
 use Rattle.golden.specs.Stepping as step
 use Rattle.exports.specs.Word.{Slots, slots, word, done, sized, refusedWith}
@@ -50,11 +52,11 @@ FindsForC f name r = r ≡ word (findSlots (finding f name))
 
 abbrev pub lineSlots : EntryAnswer → Slots
 lineSlots (line messageType number size) = done
-lineSlots (refusedLine r) = refusedWith r 0
+lineSlots (listing.refused r) = refusedWith r 0
 
 abbrev pub lineAfter : EntryAnswer → List ℕ → List ℕ
 lineAfter (line messageType number size) entry = messageType ∷ number ∷ size ∷ []
-lineAfter (refusedLine r) entry = entry
+lineAfter (listing.refused r) entry = entry
 
 -- what `morlewen_line` promises
 abbrev pub EntersForC : List ℕ → ℕ → List ℕ → ℕ → List ℕ → Type 0
@@ -82,19 +84,19 @@ StepsForC f n entry r exit =
 abbrev pub compareSlots : CompareAnswer → Slots
 compareSlots same = done
 compareSlots (different n) = sized n
-compareSlots (unlike r) = refusedWith r 0
+compareSlots (compare.refused r) = refusedWith r 0
 
 -- what `morlewen_compare` promises
 abbrev pub ComparesForC : List ℕ → ℕ → List ℕ → List ℕ → ℕ → List ℕ → Type 0
 ComparesForC f n radio entry r exit =
-    (r ≡ word (compareSlots (answerOf (comparing f n radio)))) × (exit ≡ listAfter (comparing f n radio) entry)
+    (r ≡ word (compareSlots (compareAnswer (comparing f n radio)))) × (exit ≡ afterComparing (comparing f n radio) entry)
 
 -- ---- make
 
 abbrev pub makeSlots : MakeAnswer → Slots
 makeSlots made = done
-makeSlots (declined r) = refusedWith r 0
+makeSlots (make.refused r) = refusedWith r 0
 
 -- what `morlewen_make` promises
 abbrev pub MakesForC : List ℕ → List ℕ → ℕ → List ℕ → Type 0
-MakesForC m entry r exit = (r ≡ word (makeSlots (making m (length entry)))) × (exit ≡ bufferAfter (making m (length entry)) m entry)
+MakesForC m entry r exit = (r ≡ word (makeSlots (making m (length entry)))) × (exit ≡ afterMaking (making m (length entry)) m entry)

@@ -2,7 +2,8 @@
 -- The first is 0 for done or a refusal's number, the second the number that reading gave, the others go with the operation.
 use Prim.Native.Nat.{ℕ, _+_, _*_, _/_, _%_, _<_, _^_}
 use mathlib.Core.Path.{_≡_}
-use Rattle.golden.specs.Refusal.{Refused}
+use Rattle.envelope.specs.Fields.{Refusal}
+use Rattle.envelope.specs.Refusals.{Refused, RefusalNumbers, numbersOf}
 
 pub record Slots : Type 0 where
   pub number : ℕ
@@ -25,12 +26,19 @@ done = slots 0 0 0 0
 abbrev pub sized : ℕ → Slots
 sized n = slots 0 0 0 n
 
-abbrev pub refusal : ℕ → Slots
-refusal n = slots n 0 0 0
+-- a refusal in which reading had no part; that of reading itself
+abbrev pub plainSlots : ℕ → Slots
+plainSlots n = slots n 0 0 0
 
--- a refusal of the golden file, and a number of records
+abbrev pub readingSlots : Refusal → Slots
+readingSlots r = plainSlots (r .number)
+
+-- a refusal of a golden file or a frame by its two numbers, and a count
+abbrev pub numbersSlots : RefusalNumbers → ℕ → Slots
+numbersSlots n count = slots (n .number) (n .reading) count 0
+
 abbrev pub refusedWith : Refused → ℕ → Slots
-refusedWith r count = slots (r .number) (r .reading) count 0
+refusedWith r count = numbersSlots (numbersOf r) count
 
 -- ---- nothing is lost in the word: from slots that fit, the four come back
 

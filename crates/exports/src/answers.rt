@@ -1,9 +1,11 @@
 // The answer word: a refusal's number, reading's number, a count and a value in one number of 64 bits.
 ghost use mathlib.Core.Path.{_≡_};
 ghost use Prim.Native.Nat.{_<_, _^_};
-ghost use Rattle.golden.specs.Refusal.{toldRecordFault};
-ghost use Rattle.exports.specs.Word.{slots, word, refusedWith};
-use golden::RecordFault;
+ghost use Rattle.envelope.specs.Refusals.{toldNumbers};
+ghost use Rattle.envelope.specs.Told.{toldRefusal};
+ghost use Rattle.exports.specs.Word.{slots, word, readingSlots, numbersSlots};
+use envelope::Numbers;
+use envelope::Refusal;
 
 pub(crate) fn answer(number: u8, reading: u8, count: usize, value: usize) -> u64
     requires { ⌜ (count < 2 ^ 16) × (value < 2 ^ 32) ⌝ }
@@ -12,11 +14,18 @@ pub(crate) fn answer(number: u8, reading: u8, count: usize, value: usize) -> u64
     (number as u64) + (reading as u64) * 256 + (count as u64) * 65536 + (value as u64) * 4294967296
 }
 
-// A record's refusal. The value slot is kept for a place.
-pub(crate) fn record_refused(fault: RecordFault, count: usize) -> u64
+// A refusal by its two numbers, and a count. The value slot is kept for a place.
+pub(crate) fn refused_answer(numbers: Numbers, count: usize) -> u64
     requires { ⌜ count < 2 ^ 16 ⌝ }
-    ensures { λ r. ⌜ r ≡ word (refusedWith (toldRecordFault fault) count) ⌝ }
+    ensures { λ r. ⌜ r ≡ word (numbersSlots (toldNumbers numbers) count) ⌝ }
 {
-    let numbers = fault.numbers();
     answer(numbers.number, numbers.reading, count, 0)
+}
+
+// The refusal of reading itself.
+pub(crate) fn reading_answer(refusal: Refusal) -> u64
+    ensures { λ r. ⌜ r ≡ word (readingSlots (toldRefusal refusal)) ⌝ }
+{
+    let fault = refusal.fault;
+    answer(fault.number(), 0, 0, 0)
 }

@@ -8,6 +8,7 @@ ghost use Rattle.exports.specs.Envelopes.{endNumbers, kindNumber, heldNu
 ghost use Rattle.exports.specs.Helpers.{toldEnds};
 ghost use Rattle.exports.specs.Word.{word};
 use crate::answers::answer;
+use crate::answers::reading_answer;
 use envelope::Addressing;
 use envelope::Envelope;
 use envelope::Header;
@@ -15,6 +16,7 @@ use envelope::Integrity;
 use envelope::Reading;
 use envelope::Rewriting;
 use envelope::Routing;
+use envelope::WriteFault;
 use envelope::Writing;
 use envelope::read;
 use envelope::rewrite;
@@ -92,10 +94,7 @@ fn read_word(reading: Reading) -> u64
 {
     match reading {
         Reading::Accepted(_) => answer(0, 0, 0, 0),
-        Reading::Refused(refusal) => {
-            let fault = refusal.fault;
-            answer(fault.number(), 0, 0, 0)
-        }
+        Reading::Refused(refusal) => reading_answer(refusal),
     }
 }
 
@@ -213,10 +212,7 @@ fn rewrite_word(rewriting: Rewriting) -> u64
 {
     match rewriting {
         Rewriting::Written(size) => answer(0, 0, 0, size),
-        Rewriting::Unread(refusal) => {
-            let fault = refusal.fault;
-            answer(fault.number(), 0, 0, 0)
-        }
-        Rewriting::NoRoom => answer(15, 0, 0, 0),
+        Rewriting::Refused(refusal) => reading_answer(refusal),
+        Rewriting::NoRoom => answer(WriteFault::NoRoom.number(), 0, 0, 0),
     }
 }

@@ -9,10 +9,9 @@ ghost use Rattle.exports.specs.Word.{word};
 use crate::answers::answer;
 use crate::envelopes::FIELDS;
 use crate::envelopes::numbers_of;
-use envelope::Refusal;
-use feed::Fault;
 use feed::Feed;
 use feed::Found;
+use feed::Refusal;
 use feed::Standing;
 use feed::advance;
 use feed::close;
@@ -73,13 +72,13 @@ fn standing_of(number: u64) -> Standing
     }
     if number < 8 {
         let fault = fault_of(number);
-        return Standing::Refused(Fault::Unread(Refusal { fault }));
+        return Standing::Refused(Refusal::MessageRefused(envelope::Refusal { fault }));
     }
     if number == 51 {
-        return Standing::Refused(Fault::TooLong);
+        return Standing::Refused(Refusal::TooLong);
     }
     if number == 52 {
-        return Standing::Refused(Fault::Cut);
+        return Standing::Refused(Refusal::Cut);
     }
     Standing::Whole
 }
@@ -116,7 +115,7 @@ fn standing_number(standing: Standing) -> u64
     match standing {
         Standing::Inside => 0,
         Standing::Whole => 255,
-        Standing::Refused(fault) => fault.number() as u64,
+        Standing::Refused(refusal) => refusal.number() as u64,
     }
 }
 
@@ -127,7 +126,7 @@ fn found_word(found: Found, used: usize) -> u64
     match found {
         Found::Nothing => answer(0, 0, used, 0),
         Found::Message { size, envelope: _ } => answer(0, 0, used, size),
-        Found::Refused(fault) => answer(fault.number(), 0, used, 0),
+        Found::Refused(refusal) => answer(refusal.number(), 0, used, 0),
     }
 }
 

@@ -2,15 +2,14 @@
 ghost use mathlib.Core.Path.{_≡_};
 ghost use Prim.Native.Nat.{_<_, _^_};
 ghost use Rattle.frame.specs.Capturing.{MeasuresFirst};
-ghost use Rattle.frame.specs.Refusal.{toldFrameFault};
 ghost use Rattle.frame.specs.Unwrapping.{toldUnwrapped};
 ghost use Rattle.frame.specs.Wrapping.{toldWrapped};
-ghost use Rattle.exports.specs.Frames.{frameRefused, unwrapSlots, commidsAfter, messageFields, lentFor, UnwrapsForC, wrapSlots, WrapsForC, AcknowledgesForC};
+ghost use Rattle.exports.specs.Frames.{unwrapSlots, commidsAfter, messageFields, lentFor, UnwrapsForC, wrapSlots, WrapsForC, AcknowledgesForC};
 ghost use Rattle.exports.specs.Word.{word};
 use crate::answers::answer;
+use crate::answers::refused_answer;
 use crate::envelopes::FIELDS;
 use crate::envelopes::numbers_of;
-use frame::Fault;
 use frame::Unwrapped;
 use frame::Wrapped;
 use frame::acknowledge;
@@ -95,7 +94,7 @@ fn unwrap_word(unwrapped: Unwrapped) -> u64
             answer(0, 0, TYPE_DATA as usize, message.size)
         }
         Unwrapped::Acknowledged(_) => answer(0, 0, TYPE_ACKNOWLEDGMENT as usize, 0),
-        Unwrapped::Refused(fault) => frame_refused(fault),
+        Unwrapped::Refused(refusal) => refused_answer(refusal.numbers(), 0),
     }
 }
 
@@ -105,13 +104,6 @@ fn wrap_word(wrapped: Wrapped) -> u64
 {
     match wrapped {
         Wrapped::Written(size) => answer(0, 0, 0, size),
-        Wrapped::Refused(fault) => frame_refused(fault),
+        Wrapped::Refused(refusal) => refused_answer(refusal.numbers(), 0),
     }
-}
-
-fn frame_refused(fault: Fault) -> u64
-    ensures { λ r. ⌜ r ≡ word (frameRefused (toldFrameFault fault)) ⌝ }
-{
-    let numbers = fault.numbers();
-    answer(numbers.number, numbers.reading, 0, 0)
 }

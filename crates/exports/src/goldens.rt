@@ -10,7 +10,7 @@ ghost use Rattle.golden.specs.Stepping.{toldReached};
 ghost use Rattle.exports.specs.Goldens.{nameFor, countSlots, CountsForC, checkSlots, ChecksForC, findSlots, FindsForC, lineSlots, lineAfter, EntersForC, stepSlots, partAfter, StepsForC, compareSlots, ComparesForC, makeSlots, MakesForC};
 ghost use Rattle.exports.specs.Word.{word};
 use crate::answers::answer;
-use crate::answers::record_refused;
+use crate::answers::refused_answer;
 use golden::Checking;
 use golden::Comparison;
 use golden::Counting;
@@ -101,7 +101,7 @@ fn count_word(counting: Counting) -> u64
 {
     match counting {
         Counting::Count(records) => answer(0, 0, records, 0),
-        Counting::NotAFile => answer(21, 0, 0, 0),
+        Counting::Refused(refusal) => refused_answer(refusal.numbers(), 0),
     }
 }
 
@@ -111,8 +111,7 @@ fn check_word(checking: Checking) -> u64
 {
     match checking {
         Checking::Count(records) => answer(0, 0, records, 0),
-        Checking::NotAFile => answer(21, 0, 0, 0),
-        Checking::Bad { record, fault } => record_refused(fault, record),
+        Checking::Refused { record, refusal } => refused_answer(refusal.numbers(), record),
     }
 }
 
@@ -122,9 +121,7 @@ fn find_word(finding: Finding) -> u64
 {
     match finding {
         Finding::Found { record, opened } => answer(0, 0, opened, record),
-        Finding::Missing { opened } => answer(27, 0, opened, 0),
-        Finding::NotAFile => answer(21, 0, 0, 0),
-        Finding::Bad { fault, opened } => record_refused(fault, opened),
+        Finding::Refused { refusal, opened } => refused_answer(refusal.numbers(), opened),
     }
 }
 
@@ -137,9 +134,7 @@ fn line_word(found: Entry) -> u64
             number: _,
             size: _,
         } => answer(0, 0, 0, 0),
-        Entry::Bad(fault) => record_refused(fault, 0),
-        Entry::NoRecord => answer(22, 0, 0, 0),
-        Entry::NotAFile => answer(21, 0, 0, 0),
+        Entry::Refused(refusal) => refused_answer(refusal.numbers(), 0),
     }
 }
 
@@ -154,9 +149,7 @@ fn put_line(found: Entry, line: &mut [u64; LINE])
         } => {
             *line = [message_type as u64, number as u64, size as u64];
         }
-        Entry::Bad(_) => {}
-        Entry::NoRecord => {}
-        Entry::NotAFile => {}
+        Entry::Refused(_) => {}
     }
 }
 
@@ -166,8 +159,7 @@ fn step_word(reached: Reached, on: usize) -> u64
 {
     match reached {
         Reached::Message(part) => answer(0, 0, on, part.size),
-        Reached::Bad(fault) => record_refused(fault, on),
-        Reached::NotAFile => answer(21, 0, on, 0),
+        Reached::Refused(refusal) => refused_answer(refusal.numbers(), on),
         Reached::End => answer(0, 0, on, 0),
     }
 }
@@ -179,8 +171,7 @@ fn put_part(reached: Reached, part: &mut [u64; PART])
         Reached::Message(message) => {
             *part = [message.place as u64, message.size as u64];
         }
-        Reached::Bad(_) => {}
-        Reached::NotAFile => {}
+        Reached::Refused(_) => {}
         Reached::End => {}
     }
 }
@@ -192,14 +183,7 @@ fn compare_word(comparison: Comparison) -> u64
     match comparison {
         Comparison::Same => answer(0, 0, 0, 0),
         Comparison::Different(total) => answer(0, 0, 0, total),
-        Comparison::NotAFile => answer(21, 0, 0, 0),
-        Comparison::NoRecord => answer(22, 0, 0, 0),
-        Comparison::Bad(fault) => record_refused(fault, 0),
-        Comparison::RadioUnread(refusal) => {
-            let fault = refusal.fault;
-            answer(31, fault.number(), 0, 0)
-        }
-        Comparison::Beginning => answer(32, 0, 0, 0),
+        Comparison::Refused(refusal) => refused_answer(refusal.numbers(), 0),
     }
 }
 
@@ -208,11 +192,6 @@ fn make_word(making: Making) -> u64
 {
     match making {
         Making::Made => answer(0, 0, 0, 0),
-        Making::TooLong => answer(33, 0, 0, 0),
-        Making::Unread(refusal) => {
-            let fault = refusal.fault;
-            answer(34, fault.number(), 0, 0)
-        }
-        Making::WrongBuffer => answer(35, 0, 0, 0),
+        Making::Refused(refusal) => refused_answer(refusal.numbers(), 0),
     }
 }

@@ -1,11 +1,10 @@
--- `envelopes::read_word`: done, or the fault's number.
+-- `envelopes::read_word`: done, or the refusal of reading.
 use mathlib.Core.Path.{ap, sym, _∙_}
-use Prim.Native.Nat.{ℕ}
 use borrow.Author.Needs.{needs}
 use Rattle.envelope.specs.Told.{told}
 use Rattle.envelope.specs.declared.reader.Reading.{Reading}
 use Rattle.exports.specs.Envelopes.{readSlots}
-use Rattle.exports.specs.Word.{word, slots}
+use Rattle.exports.specs.Word.{word}
 use Rattle.exports.proofs.envelopes.read_word.Statement.{statement}
 use Rattle.exports.proofs.envelopes.read_word.Tie as tie
 
@@ -18,17 +17,14 @@ answer-requires c κs = search needs
 enum-known-reading : tie.Need-enum-known-reading
 enum-known-reading c = search needs
 
-number-requires : tie.Need-number-requires
-number-requires c κs = search needs
-
-answer-requires-2 : tie.Need-answer-requires-2
-answer-requires-2 c κs = search needs
+reading-answer-requires : tie.Need-reading-answer-requires
+reading-answer-requires c κs = search needs
 
 returns : tie.Need-returns
 returns c = c .answer .ensures ∙ ap (λ (x : Reading). word (readSlots (told x))) (sym (c .before .enum-told .given .1))
 
 returns-2 : tie.Need-returns-2
-returns-2 c = c .answer2 .ensures ∙ ap (λ (n : ℕ). word (slots n 0 0 0)) (c .before .number .ensures) ∙ ap (λ (x : Reading). word (readSlots (told x))) (sym (c .before .before .before .reading .given .1))
+returns-2 c = c .reading-answer .ensures ∙ ap (λ (x : Reading). word (readSlots (told x))) (sym (c .before .before .reading .given .1))
 
 pub read-word-spec : {M : Type 1} → statement M
 read-word-spec =
@@ -37,7 +33,6 @@ read-word-spec =
     enum-told
     answer-requires
     enum-known-reading
-    number-requires
-    answer-requires-2
+    reading-answer-requires
     returns
     returns-2)

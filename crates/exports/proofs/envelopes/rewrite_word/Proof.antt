@@ -1,4 +1,4 @@
--- `envelopes::rewrite_word`: the length, the number of reading, or 15.
+-- `envelopes::rewrite_word`: the length, the refusal of reading, or 15.
 use mathlib.Core.Path.{subst, ap, sym, _∙_}
 use Prim.Native.Nat.{ℕ, _<_, _^_}
 use native.Mathlib.Omega.{arith}
@@ -19,26 +19,26 @@ answer-requires c κs = (omega arith, subst (λ (x : Rewriting). rewriteSlots (t
 enum-known-rewriting-2 : tie.Need-enum-known-rewriting-2
 enum-known-rewriting-2 c = search needs
 
+reading-answer-requires : tie.Need-reading-answer-requires
+reading-answer-requires c κs = search needs
+
+enum-told : tie.Need-enum-told
+enum-told c = search needs
+
 number-requires : tie.Need-number-requires
 number-requires c κs = search needs
 
 answer-requires-2 : tie.Need-answer-requires-2
 answer-requires-2 c κs = search needs
 
-enum-told : tie.Need-enum-told
-enum-told c = search needs
-
-answer-requires-3 : tie.Need-answer-requires-3
-answer-requires-3 c κs = search needs
-
 returns : tie.Need-returns
 returns c = c .answer .ensures ∙ ap (λ (x : Rewriting). word (rewriteSlots (toldRewriting x))) (sym (c .before .before .rewriting .given .1))
 
 returns-2 : tie.Need-returns-2
-returns-2 c = c .answer2 .ensures ∙ ap (λ (n : ℕ). word (slots n 0 0 0)) (c .before .number .ensures) ∙ ap (λ (x : Rewriting). word (rewriteSlots (toldRewriting x))) (sym (c .before .before .before .rewriting2 .given .1))
+returns-2 c = c .reading-answer .ensures ∙ ap (λ (x : Rewriting). word (rewriteSlots (toldRewriting x))) (sym (c .before .before .rewriting2 .given .1))
 
 returns-3 : tie.Need-returns-3
-returns-3 c = c .answer3 .ensures ∙ ap (λ (x : Rewriting). word (rewriteSlots (toldRewriting x))) (sym (c .before .enum-told .given .1))
+returns-3 c = c .answer2 .ensures ∙ ap (λ (n : ℕ). word (slots n 0 0 0)) (c .before .number .ensures) ∙ ap (λ (x : Rewriting). word (rewriteSlots (toldRewriting x))) (sym (c .before .before .enum-told .given .1))
 
 pub rewrite-word-spec : {M : Type 1} → statement M
 rewrite-word-spec =
@@ -47,10 +47,10 @@ rewrite-word-spec =
     enum-known-rewriting
     answer-requires
     enum-known-rewriting-2
+    reading-answer-requires
+    enum-told
     number-requires
     answer-requires-2
-    enum-told
-    answer-requires-3
     returns
     returns-2
     returns-3)

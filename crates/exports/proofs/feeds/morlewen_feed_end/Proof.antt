@@ -2,7 +2,7 @@
 use mathlib.Core.List.{[], _∷_}
 use mathlib.Core.Path.{_≡_, ap, _∙_}
 use native.Mathlib.Omega.{arith}
-use Rattle.feed.specs.Feeding.{State, Outcome, ending}
+use Rattle.feed.specs.Feeding.{State, FeedOutcome, ending}
 use Rattle.exports.proofs.FeedLaws.{state-lent}
 use Rattle.exports.proofs.FitsLaws.{end-fits}
 use Rattle.exports.specs.Feeds.{foundSlots, stateNumbers, stateFor}
@@ -36,8 +36,8 @@ returns c kept =
     let stood = c .before .before .before .before .standing-of in
     let stands = state-lent kept (start .args .numbers .now) (stood .result) (stood .ensures) in
     let ends = step .ensures kept ∙ ap ending stands in (
-      c .found-word .ensures ∙ ap (λ (o : Outcome). word (foundSlots (o .finding) 0)) ends,
-      (λ i. step .result .count ∷ c .before .before .standing-number .ensures i ∷ []) ∙ ap (λ (o : Outcome). stateNumbers (o .state)) ends,
+      c .found-word .ensures ∙ ap (λ (o : FeedOutcome). word (foundSlots (o .finding) 0)) ends,
+      (λ i. step .result .count ∷ c .before .before .standing-number .ensures i ∷ []) ∙ ap (λ (o : FeedOutcome). stateNumbers (o .state)) ends,
     )
 
 pub morlewen-feed-end-spec : {M : Type 1} → statement M

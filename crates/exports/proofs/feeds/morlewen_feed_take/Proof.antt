@@ -1,7 +1,7 @@
 -- `feeds::morlewen_feed_take`: the promise of `advance`, told in a word, in two numbers and in sixteen.
 use mathlib.Core.List.{[], _∷_}
 use mathlib.Core.Path.{_≡_, ap, _∙_}
-use Rattle.feed.specs.Feeding.{State, Outcome, taking}
+use Rattle.feed.specs.Feeding.{State, FeedOutcome, taking}
 use Rattle.exports.proofs.FeedLaws.{state-lent}
 use Rattle.exports.proofs.FitsLaws.{take-fits}
 use Rattle.exports.specs.Feeds.{foundSlots, stateFor, lentAfter}
@@ -38,12 +38,12 @@ returns c =
     let stood = c .before .before .before .before .before .before .standing-of in
     let stands = state-lent (args .kept .now) (args .numbers .now) (stood .result) (stood .ensures) in
     let takes = step .ensures .0 ∙ ap (λ (s : State). taking s (args .piece .now)) stands in (
-      c .found-word .ensures ∙ ap (λ (o : Outcome). word (foundSlots (o .finding) (o .used))) takes,
+      c .found-word .ensures ∙ ap (λ (o : FeedOutcome). word (foundSlots (o .finding) (o .used))) takes,
       (λ i. record {
         kept = step .last .0;
         numbers = step .result .count ∷ c .before .before .before .before .standing-number .ensures i ∷ [];
         fields = c .before .put-found .ensures i;
-      }) ∙ ap (λ (o : Outcome). lentAfter o (args .fields .now)) takes,
+      }) ∙ ap (λ (o : FeedOutcome). lentAfter o (args .fields .now)) takes,
     )
 
 pub morlewen-feed-take-spec : {M : Type 1} → statement M

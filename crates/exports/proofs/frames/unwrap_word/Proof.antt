@@ -2,11 +2,12 @@
 use mathlib.Core.Path.{subst, ap, sym, _∙_}
 use Prim.Native.Nat.{_<_, _^_}
 use native.Mathlib.Omega.{arith}
+use borrow.Author.Needs.{needs}
+use Rattle.envelope.specs.Refusals.{RefusalNumbers}
 use Rattle.frame.specs.Unwrapping.{toldUnwrapped}
 use Rattle.frame.specs.declared.unwrapper.Unwrapped.{Unwrapped}
 use Rattle.exports.specs.Frames.{unwrapSlots}
-use Rattle.exports.specs.Word.{word}
-use borrow.Author.Needs.{needs}
+use Rattle.exports.specs.Word.{word, numbersSlots}
 use Rattle.exports.proofs.frames.unwrap_word.Statement.{statement}
 use Rattle.exports.proofs.frames.unwrap_word.Tie as tie
 
@@ -31,8 +32,11 @@ answer-requires-2 c κs = search needs
 enum-known-unwrapped-2 : tie.Need-enum-known-unwrapped-2
 enum-known-unwrapped-2 c = search needs
 
-frame-refused-requires : tie.Need-frame-refused-requires
-frame-refused-requires c κs = search needs
+numbers-requires : tie.Need-numbers-requires
+numbers-requires c κs = search needs
+
+refused-answer-requires : tie.Need-refused-answer-requires
+refused-answer-requires c κs = search needs
 
 returns : tie.Need-returns
 returns c = c .answer .ensures ∙ ap (λ (x : Unwrapped). word (unwrapSlots (toldUnwrapped x))) (sym (c .before .before .before .unwrapped .given .1))
@@ -41,7 +45,7 @@ returns-2 : tie.Need-returns-2
 returns-2 c = c .answer2 .ensures ∙ ap (λ (x : Unwrapped). word (unwrapSlots (toldUnwrapped x))) (sym (c .before .enum-told .given .1))
 
 returns-3 : tie.Need-returns-3
-returns-3 c = c .frame-refused .ensures ∙ ap (λ (x : Unwrapped). word (unwrapSlots (toldUnwrapped x))) (sym (c .before .before .unwrapped2 .given .1))
+returns-3 c = c .refused-answer .ensures ∙ ap (λ (n : RefusalNumbers). word (numbersSlots n 0)) (c .before .numbers .ensures) ∙ ap (λ (x : Unwrapped). word (unwrapSlots (toldUnwrapped x))) (sym (c .before .before .before .unwrapped2 .given .1))
 
 pub unwrap-word-spec : {M : Type 1} → statement M
 unwrap-word-spec =
@@ -54,7 +58,8 @@ unwrap-word-spec =
     cast-answer-2
     answer-requires-2
     enum-known-unwrapped-2
-    frame-refused-requires
+    numbers-requires
+    refused-answer-requires
     returns
     returns-2
     returns-3)

@@ -1,12 +1,13 @@
--- `goldens::check_word`: one case for each answer; what is counted fits its slot.
+-- `goldens::check_word`: one case for each answer; a count or a record's number fits its slot.
 use mathlib.Core.Path.{subst, ap, sym, _∙_}
 use Prim.Native.Nat.{_<_, _^_}
 use native.Mathlib.Omega.{arith}
 use borrow.Author.Needs.{needs}
+use Rattle.envelope.specs.Refusals.{RefusalNumbers}
 use Rattle.golden.specs.Checking.{toldChecking}
 use Rattle.golden.specs.declared.checker.Checking.{Checking}
 use Rattle.exports.specs.Goldens.{checkSlots}
-use Rattle.exports.specs.Word.{word}
+use Rattle.exports.specs.Word.{word, numbersSlots}
 use Rattle.exports.proofs.goldens.check_word.Statement.{statement}
 use Rattle.exports.proofs.goldens.check_word.Tie as tie
 
@@ -16,26 +17,20 @@ enum-known-checking c = search needs
 answer-requires : tie.Need-answer-requires
 answer-requires c κs = (subst (λ (x : Checking). checkSlots (toldChecking x) .count < 2 ^ 16) (c .before .checking .given .1) (c .before .before .before .pre), omega arith)
 
-enum-told : tie.Need-enum-told
-enum-told c = search needs
-
-answer-requires-2 : tie.Need-answer-requires-2
-answer-requires-2 c κs = search needs
-
 enum-known-checking-2 : tie.Need-enum-known-checking-2
 enum-known-checking-2 c = search needs
 
-record-refused-requires : tie.Need-record-refused-requires
-record-refused-requires c κs = subst (λ (x : Checking). checkSlots (toldChecking x) .count < 2 ^ 16) (c .before .checking2 .given .1) (c .before .before .before .pre)
+numbers-requires : tie.Need-numbers-requires
+numbers-requires c κs = search needs
+
+refused-answer-requires : tie.Need-refused-answer-requires
+refused-answer-requires c κs = subst (λ (x : Checking). checkSlots (toldChecking x) .count < 2 ^ 16) (c .before .before .checking2 .given .1) (c .before .before .before .before .pre)
 
 returns : tie.Need-returns
 returns c = c .answer .ensures ∙ ap (λ (x : Checking). word (checkSlots (toldChecking x))) (sym (c .before .before .checking .given .1))
 
 returns-2 : tie.Need-returns-2
-returns-2 c = c .answer2 .ensures ∙ ap (λ (x : Checking). word (checkSlots (toldChecking x))) (sym (c .before .enum-told .given .1))
-
-returns-3 : tie.Need-returns-3
-returns-3 c = c .record-refused .ensures ∙ ap (λ (x : Checking). word (checkSlots (toldChecking x))) (sym (c .before .before .checking2 .given .1))
+returns-2 c = c .refused-answer .ensures ∙ ap (λ (n : RefusalNumbers). word (numbersSlots n (c .before .before .before .checking2 .given .0 .0))) (c .before .numbers .ensures) ∙ ap (λ (x : Checking). word (checkSlots (toldChecking x))) (sym (c .before .before .before .checking2 .given .1))
 
 pub check-word-spec : {M : Type 1} → statement M
 check-word-spec =
@@ -43,10 +38,8 @@ check-word-spec =
     (tie.spec
     enum-known-checking
     answer-requires
-    enum-told
-    answer-requires-2
     enum-known-checking-2
-    record-refused-requires
+    numbers-requires
+    refused-answer-requires
     returns
-    returns-2
-    returns-3)
+    returns-2)

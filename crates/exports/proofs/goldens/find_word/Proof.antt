@@ -1,12 +1,12 @@
 -- `goldens::find_word`: one case for each answer; what is counted and found fits its slot.
 use mathlib.Core.Path.{subst, ap, sym, _∙_}
 use Prim.Native.Nat.{_<_, _^_}
-use native.Mathlib.Omega.{arith}
 use borrow.Author.Needs.{needs}
+use Rattle.envelope.specs.Refusals.{RefusalNumbers}
 use Rattle.golden.specs.Finding.{toldFinding}
 use Rattle.golden.specs.declared.finder.Finding.{Finding}
 use Rattle.exports.specs.Goldens.{findSlots}
-use Rattle.exports.specs.Word.{word}
+use Rattle.exports.specs.Word.{word, numbersSlots}
 use Rattle.exports.proofs.goldens.find_word.Statement.{statement}
 use Rattle.exports.proofs.goldens.find_word.Tie as tie
 
@@ -19,32 +19,17 @@ answer-requires c κs = (subst (λ (x : Finding). findSlots (toldFinding x) .cou
 enum-known-finding-2 : tie.Need-enum-known-finding-2
 enum-known-finding-2 c = search needs
 
-answer-requires-2 : tie.Need-answer-requires-2
-answer-requires-2 c κs = (subst (λ (x : Finding). findSlots (toldFinding x) .count < 2 ^ 16) (c .before .finding2 .given .1) (c .before .before .before .pre .0), omega arith)
+numbers-requires : tie.Need-numbers-requires
+numbers-requires c κs = search needs
 
-enum-told : tie.Need-enum-told
-enum-told c = search needs
-
-answer-requires-3 : tie.Need-answer-requires-3
-answer-requires-3 c κs = search needs
-
-enum-known-finding-3 : tie.Need-enum-known-finding-3
-enum-known-finding-3 c = search needs
-
-record-refused-requires : tie.Need-record-refused-requires
-record-refused-requires c κs = subst (λ (x : Finding). findSlots (toldFinding x) .count < 2 ^ 16) (c .before .finding3 .given .1) (c .before .before .before .pre .0)
+refused-answer-requires : tie.Need-refused-answer-requires
+refused-answer-requires c κs = subst (λ (x : Finding). findSlots (toldFinding x) .count < 2 ^ 16) (c .before .before .finding2 .given .1) (c .before .before .before .before .pre .0)
 
 returns : tie.Need-returns
 returns c = c .answer .ensures ∙ ap (λ (x : Finding). word (findSlots (toldFinding x))) (sym (c .before .before .finding .given .1))
 
 returns-2 : tie.Need-returns-2
-returns-2 c = c .answer2 .ensures ∙ ap (λ (x : Finding). word (findSlots (toldFinding x))) (sym (c .before .before .finding2 .given .1))
-
-returns-3 : tie.Need-returns-3
-returns-3 c = c .answer3 .ensures ∙ ap (λ (x : Finding). word (findSlots (toldFinding x))) (sym (c .before .enum-told .given .1))
-
-returns-4 : tie.Need-returns-4
-returns-4 c = c .record-refused .ensures ∙ ap (λ (x : Finding). word (findSlots (toldFinding x))) (sym (c .before .before .finding3 .given .1))
+returns-2 c = c .refused-answer .ensures ∙ ap (λ (n : RefusalNumbers). word (numbersSlots n (c .before .before .before .finding2 .given .0 .1 .0))) (c .before .numbers .ensures) ∙ ap (λ (x : Finding). word (findSlots (toldFinding x))) (sym (c .before .before .before .finding2 .given .1))
 
 pub find-word-spec : {M : Type 1} → statement M
 find-word-spec =
@@ -53,12 +38,7 @@ find-word-spec =
     enum-known-finding
     answer-requires
     enum-known-finding-2
-    answer-requires-2
-    enum-told
-    answer-requires-3
-    enum-known-finding-3
-    record-refused-requires
+    numbers-requires
+    refused-answer-requires
     returns
-    returns-2
-    returns-3
-    returns-4)
+    returns-2)

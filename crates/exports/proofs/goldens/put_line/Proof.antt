@@ -19,23 +19,11 @@ cast-t7 c = search needs
 enum-told : tie.Need-enum-told
 enum-told c = search needs
 
-enum-told-2 : tie.Need-enum-told-2
-enum-told-2 c = search needs
-
-enum-told-3 : tie.Need-enum-told-3
-enum-told-3 c = search needs
-
 returns : tie.Need-returns
 returns c = ap (λ (x : Entry). lineAfter (toldEntry x) (c .before .before .before .before .args .line .now)) (sym (c .before .before .found .given .1))
 
 returns-2 : tie.Need-returns-2
 returns-2 c = search needs
-
-returns-3 : tie.Need-returns-3
-returns-3 c = search needs
-
-returns-4 : tie.Need-returns-4
-returns-4 c = search needs
 
 pub put-line-spec : {M : Type 1} → statement M
 put-line-spec =
@@ -45,9 +33,5 @@ put-line-spec =
     cast-t6
     cast-t7
     enum-told
-    enum-told-2
-    enum-told-3
     returns
-    returns-2
-    returns-3
-    returns-4)
+    returns-2)

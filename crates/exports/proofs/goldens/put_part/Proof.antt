@@ -1,4 +1,4 @@
--- `goldens::put_part`: the place and size of a message, or nothing.
+-- `goldens::put_part`: where the message stands, or nothing.
 use mathlib.Core.Path.{ap, sym}
 use borrow.Author.Needs.{needs}
 use Rattle.golden.specs.Stepping.{toldReached}
@@ -16,9 +16,6 @@ enum-told c = search needs
 enum-told-2 : tie.Need-enum-told-2
 enum-told-2 c = search needs
 
-enum-told-3 : tie.Need-enum-told-3
-enum-told-3 c = search needs
-
 returns : tie.Need-returns
 returns c = ap (λ (x : Reached). partAfter (toldReached x) (c .before .before .before .before .args .part .now)) (sym (c .before .before .reached .given .1))
 
@@ -28,9 +25,6 @@ returns-2 c = search needs
 returns-3 : tie.Need-returns-3
 returns-3 c = search needs
 
-returns-4 : tie.Need-returns-4
-returns-4 c = search needs
-
 pub put-part-spec : {M : Type 1} → statement M
 put-part-spec =
     tie.close
@@ -38,8 +32,6 @@ put-part-spec =
     enum-known-reached
     enum-told
     enum-told-2
-    enum-told-3
     returns
     returns-2
-    returns-3
-    returns-4)
+    returns-3)

@@ -1,11 +1,12 @@
--- `goldens::step_word`: one case for each answer; the message's size fits its slot.
+-- `goldens::step_word`: one case for each answer; a message's size fits its slot.
 use mathlib.Core.Path.{subst, ap, sym, _∙_}
 use Prim.Native.Nat.{_<_, _^_}
 use borrow.Author.Needs.{needs}
+use Rattle.envelope.specs.Refusals.{RefusalNumbers}
 use Rattle.golden.specs.Stepping.{toldReached}
 use Rattle.golden.specs.declared.stepper.Reached.{Reached}
 use Rattle.exports.specs.Goldens.{stepSlots}
-use Rattle.exports.specs.Word.{word}
+use Rattle.exports.specs.Word.{word, numbersSlots}
 use Rattle.exports.proofs.goldens.step_word.Statement.{statement}
 use Rattle.exports.proofs.goldens.step_word.Tie as tie
 
@@ -18,8 +19,11 @@ answer-requires c κs = (c .before .before .before .pre .0, subst (λ (x : Reach
 enum-known-reached-2 : tie.Need-enum-known-reached-2
 enum-known-reached-2 c = search needs
 
-record-refused-requires : tie.Need-record-refused-requires
-record-refused-requires c κs = search needs
+numbers-requires : tie.Need-numbers-requires
+numbers-requires c κs = search needs
+
+refused-answer-requires : tie.Need-refused-answer-requires
+refused-answer-requires c κs = search needs
 
 enum-told : tie.Need-enum-told
 enum-told c = search needs
@@ -27,23 +31,14 @@ enum-told c = search needs
 answer-requires-2 : tie.Need-answer-requires-2
 answer-requires-2 c κs = search needs
 
-enum-told-2 : tie.Need-enum-told-2
-enum-told-2 c = search needs
-
-answer-requires-3 : tie.Need-answer-requires-3
-answer-requires-3 c κs = search needs
-
 returns : tie.Need-returns
 returns c = c .answer .ensures ∙ ap (λ (x : Reached). word (stepSlots (toldReached x) (c .before .before .before .before .args .on))) (sym (c .before .before .reached .given .1))
 
 returns-2 : tie.Need-returns-2
-returns-2 c = c .record-refused .ensures ∙ ap (λ (x : Reached). word (stepSlots (toldReached x) (c .before .before .before .before .args .on))) (sym (c .before .before .reached2 .given .1))
+returns-2 c = c .refused-answer .ensures ∙ ap (λ (n : RefusalNumbers). word (numbersSlots n (c .before .before .before .before .before .args .on))) (c .before .numbers .ensures) ∙ ap (λ (x : Reached). word (stepSlots (toldReached x) (c .before .before .before .before .before .args .on))) (sym (c .before .before .before .reached2 .given .1))
 
 returns-3 : tie.Need-returns-3
 returns-3 c = c .answer2 .ensures ∙ ap (λ (x : Reached). word (stepSlots (toldReached x) (c .before .before .before .args .on))) (sym (c .before .enum-told .given .1))
-
-returns-4 : tie.Need-returns-4
-returns-4 c = c .answer3 .ensures ∙ ap (λ (x : Reached). word (stepSlots (toldReached x) (c .before .before .before .args .on))) (sym (c .before .enum-told2 .given .1))
 
 pub step-word-spec : {M : Type 1} → statement M
 step-word-spec =
@@ -52,12 +47,10 @@ step-word-spec =
     enum-known-reached
     answer-requires
     enum-known-reached-2
-    record-refused-requires
+    numbers-requires
+    refused-answer-requires
     enum-told
     answer-requires-2
-    enum-told-2
-    answer-requires-3
     returns
     returns-2
-    returns-3
-    returns-4)
+    returns-3)
