@@ -13,8 +13,7 @@ use Rattle.envelope.proofs.ReadingLaws.{accepted-least, long-not-1}
 use Rattle.envelope.proofs.WrittenLaws.{two-back}
 use Rattle.envelope.specs.Fields.{Fields, Answer, accepted, refusal}
 use Rattle.envelope.specs.Fields as envelope
-use Rattle.envelope.specs.Message.{inTwo}
-use Rattle.envelope.specs.Numbers.{twoAt}
+use Rattle.envelope.specs.Numbers.{twoAt, inTwo}
 use Rattle.envelope.specs.Reading.{reading}
 use Rattle.golden.specs.Checking.{counted, checkFrom, checking}
 use Rattle.golden.specs.Comparing.{differsAt, differing, properBeginning, positions, comparingMessages, comparing, same, answerOf}

@@ -7,7 +7,7 @@ use mathlib.Core.Path.{_≡_}
 use lib.Dec.{eqb, ltb}
 use lib.ListN.{length, replicate}
 use Rattle.envelope.specs.Fields.{Answer, accepted, refused}
-use Rattle.envelope.specs.Message.{inTwo}
+use Rattle.envelope.specs.Numbers.{inTwo}
 use Rattle.envelope.specs.Reading.{reading}
 use Rattle.envelope.specs.Told.{toldFault}
 use Rattle.golden.specs.Record.{recordSize, longestMessage}

@@ -7,8 +7,8 @@ use Rattle.sum.specs.Promise.{Only₁, Sums}
 use Rattle.sum.proofs.Laws.{only-sums}
 use Rattle.envelope.specs.Announcing.{Announces}
 use Rattle.envelope.specs.Lateness.{JudgesLateness}
-use Rattle.envelope.specs.Message.{Given, FourDigits}
-use Rattle.envelope.specs.Numbers.{TwoBytes, ThreeBytes, FourBytes}
+use Rattle.envelope.specs.Message.{Given}
+use Rattle.envelope.specs.Numbers.{TwoBytes, ThreeBytes, FourBytes, FourDigits}
 use Rattle.envelope.specs.Promise.{Only₂}
 use Rattle.envelope.specs.Qos.{QosFields, Splits, Joins}
 use Rattle.envelope.specs.Rewriting.{Rewrites, RefusedRewriteWritesNothing}

@@ -16,8 +16,8 @@ use Rattle.envelope.specs.Flags.{badFlags}
 use Rattle.envelope.specs.Heading.{announced, badVariableSize, heading}
 use Rattle.envelope.specs.IntegrityField.{badIntegrity}
 use Rattle.envelope.specs.Lateness.{latenessOf, JudgesLateness}
-use Rattle.envelope.specs.Message.{Given, beforeField, fieldNumber, message, FourDigits}
-use Rattle.envelope.specs.Numbers.{twoAt, threeAt, fourAt, TwoBytes, ThreeBytes, FourBytes}
+use Rattle.envelope.specs.Message.{Given, beforeField, fieldNumber, message}
+use Rattle.envelope.specs.Numbers.{twoAt, threeAt, fourAt, TwoBytes, ThreeBytes, FourBytes, FourDigits}
 use Rattle.envelope.specs.Qos.{QosFields, splitting, joining, Splits, Joins}
 use Rattle.envelope.specs.Reading.{readingWhole, reading}
 use Rattle.envelope.specs.Rewriting.{rewrote, unread, Rewrites}
