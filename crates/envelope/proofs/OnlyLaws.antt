@@ -8,6 +8,7 @@ pub use Rattle.sum.proofs.Laws.{only-by-telling}
 use Rattle.sum.specs.Promise.{Only₁}
 use Rattle.envelope.specs.Fields.{Span, HeaderFields, AddressingFields, absent, present, IntegrityFields, none, crc, application, Fields, Answer, accepted, refused}
 use Rattle.envelope.specs.Fields as paper
+use Rattle.envelope.specs.Flags.{TellsTime, TellsEncryption, TellsCompression, TellsKind}
 use Rattle.envelope.specs.Lateness.{LatenessAnswer, noClock, late, inTime, lateness, toldLateness, JudgesLateness}
 use Rattle.envelope.specs.Message.{Given}
 use Rattle.envelope.specs.Numbers.{TwoBytes, ThreeBytes, FourBytes, TwoDigits, FourDigits}
@@ -156,6 +157,20 @@ only-two-digits n x y p q = p ∙ sym q
 
 pub only-four-digits : (n : ℕ) → Only₁ (FourDigits n)
 only-four-digits n x y p q = p ∙ sym q
+
+-- ---- flags
+
+pub only-tells-time : (flags : ℕ) → Only₁ (TellsTime flags)
+only-tells-time flags x y p q = p ∙ sym q
+
+pub only-tells-encryption : (flags : ℕ) → Only₁ (TellsEncryption flags)
+only-tells-encryption flags x y p q = p ∙ sym q
+
+pub only-tells-compression : (flags : ℕ) → Only₁ (TellsCompression flags)
+only-tells-compression flags x y p q = p ∙ sym q
+
+pub only-tells-kind : (flags : ℕ) → Only₁ (TellsKind flags)
+only-tells-kind flags x y p q = p ∙ sym q
 
 -- ---- QoS
 

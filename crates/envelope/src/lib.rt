@@ -3,7 +3,7 @@
 mod addresses;
 pub mod announcer;
 pub mod fields;
-mod flags;
+pub mod flags;
 mod integrity_field;
 pub mod lateness;
 pub mod numbers;
