@@ -9,6 +9,8 @@ use crate::status::Status;
 use envelope::Envelope;
 use envelope::Part;
 use envelope::Reading;
+use envelope::flags::KIND_CRC;
+use envelope::flags::kind;
 use envelope::numbers::four_bytes;
 use envelope::numbers::three_bytes;
 use envelope::read;
@@ -16,9 +18,6 @@ use judge::Judging;
 use judge::Verdict;
 use judge::divide;
 use judge::judge;
-
-// The kind whose field is a CRC.
-const KIND_CRC: u64 = 1;
 
 pub fn judge_message(message: &[u8]) -> Status {
     let judging = judge(message);
@@ -63,7 +62,7 @@ fn show_first_four(message: &[u8], judging: Judging) {
         flags,
         length,
         Envelope::FLAGS_PLACE + 1,
-        &[held as u64, kind_in(held)],
+        &[held as u64, kind(held) as u64],
     );
     show_rule(
         b"rule 4, the variable header size (V) is 0, or 6 to 132: V is #\n",
@@ -72,11 +71,6 @@ fn show_first_four(message: &[u8], judging: Judging) {
         Envelope::HEADER_SIZE,
         &[byte_at(message, Envelope::VARIABLE_SIZE_PLACE) as u64],
     );
-}
-
-// Bits 3 and 4.
-fn kind_in(flags: u8) -> u64 {
-    (flags / 8 % 4) as u64
 }
 
 // All go by the sizes that the header states.
@@ -140,7 +134,7 @@ fn show_integrity(message: &[u8], verdict: Verdict, place: usize, end: usize) {
         byte_at(field, 2),
         byte_at(field, 3),
     );
-    match kind_in(flags) {
+    match kind(flags) {
         KIND_CRC => show_rule(
             b"rule 7, the integrity field is the CRC, the kind being 1: the field says $, division gives $\n",
             verdict,
@@ -153,7 +147,7 @@ fn show_integrity(message: &[u8], verdict: Verdict, place: usize, end: usize) {
             verdict,
             message.len(),
             end,
-            &[held as u64, kind_in(flags)],
+            &[held as u64, kind(flags) as u64],
         ),
     }
 }

@@ -16,6 +16,9 @@ use envelope::Header;
 use envelope::Integrity;
 use envelope::Part;
 use envelope::Reading;
+use envelope::flags::is_compressed;
+use envelope::flags::is_encrypted;
+use envelope::flags::time_is_absolute;
 use envelope::qos::Qos;
 use envelope::qos::split;
 use envelope::read;
@@ -70,28 +73,28 @@ fn show_flags(flags: u8, integrity: Integrity) {
     text(b"\nflags                 ");
     hex_byte(flags);
     text(b" (hex)");
-    show_time_format(flags % 2);
-    yes_or_no(b"\n  encrypted           ", flags / 2 % 2);
-    yes_or_no(b"\n  compressed          ", flags / 4 % 2);
+    show_time_format(time_is_absolute(flags));
+    yes_or_no(b"\n  encrypted           ", is_encrypted(flags));
+    yes_or_no(b"\n  compressed          ", is_compressed(flags));
     show_kind(integrity);
 }
 
-fn show_time_format(bit: u8) {
+fn show_time_format(absolute: bool) {
     text(b"\n  time format         ");
-    if bit == 0 {
-        text(b"relative");
+    if absolute {
+        text(b"absolute");
         return;
     }
-    text(b"absolute");
+    text(b"relative");
 }
 
-fn yes_or_no(name: &[u8], bit: u8) {
+fn yes_or_no(name: &[u8], so: bool) {
     text(name);
-    if bit == 0 {
-        text(b"no");
+    if so {
+        text(b"yes");
         return;
     }
-    text(b"yes");
+    text(b"no");
 }
 
 fn show_kind(integrity: Integrity) {

@@ -25,6 +25,10 @@ either false b e = inr e
 pub true-is-not-false : {b : Bool} → b ≡ true → b ≡ false → ⊥
 true-is-not-false t f = let z : _≡_ {A = ℕ} 0 1 = cc in omega arith
 
+pub and-false : (b : Bool) → (b && false) ≡ false
+and-false true = refl
+and-false false = refl
+
 -- what cannot be true is false
 pub is-false : (b : Bool) → (b ≡ true → ⊥) → b ≡ false
 is-false true f = absurd (f refl)

@@ -11,7 +11,7 @@ use lib.ListN.{take}
 use lib.Seq.{getD-take}
 use Rattle.envelope.specs.Flags.{kindOf, kindUnassigned, badFlags}
 use Rattle.envelope.specs.Heading.{flagsOf, variableSize, dataLength, announced, wrongVersion, badVariableSize, HeadingAnswer, passed, refused, heading}
-use Rattle.envelope.specs.Layout.{headerSize, fieldSize, smallestVariable, largestVariable}
+use Rattle.envelope.specs.Layout.{dataLengthPlace, variableSizePlace, headerSize, fieldSize, smallestVariable, largestVariable}
 use Rattle.envelope.specs.Numbers.{byteAt, threeAt}
 use Rattle.envelope.proofs.BoolLaws.{neither, true-is-not-false}
 
@@ -66,6 +66,13 @@ size-most v e = ltb-false largestVariable v (neither (leb 1 v && ltb v smallestV
 
 byte-of-front : (s : List ℕ) (n i : ℕ) → i < n → byteAt (take n s) i ≡ byteAt s i
 byte-of-front s n i h = getD-take n s i 0 h
+
+-- the four bytes that state D and V decide the announced length
+pub announced-by-bytes : (s t : List ℕ) → byteAt s dataLengthPlace ≡ byteAt t dataLengthPlace
+    → byteAt s (dataLengthPlace + 1) ≡ byteAt t (dataLengthPlace + 1) → byteAt s (dataLengthPlace + 2) ≡ byteAt t (dataLengthPlace + 2)
+    → byteAt s variableSizePlace ≡ byteAt t variableSizePlace → announced s ≡ announced t
+unfolding announced threeAt
+announced-by-bytes s t a b c d = rw (a, b, c, d)
 
 pub announced-by-heading : (s : List ℕ) → announced (take headerSize s) ≡ announced s
 unfolding announced threeAt

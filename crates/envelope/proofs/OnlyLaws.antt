@@ -10,9 +10,10 @@ pub use Rattle.sum.proofs.Laws.{only-by-telling}
 use Rattle.sum.specs.Promise.{Only₁}
 use Rattle.envelope.specs.Fields.{Span, HeaderFields, AddressingFields, absent, present, IntegrityFields, none, crc, application, Fields, Answer, accepted, refused}
 use Rattle.envelope.specs.Fields as paper
+use Rattle.envelope.specs.Flags.{TellsTime, TellsEncryption, TellsCompression, TellsKind}
 use Rattle.envelope.specs.Lateness.{LatenessAnswer, noClock, late, inTime, lateness, toldLateness, JudgesLateness}
-use Rattle.envelope.specs.Message.{Given, FourDigits}
-use Rattle.envelope.specs.Numbers.{TwoBytes, ThreeBytes, FourBytes}
+use Rattle.envelope.specs.Message.{Given}
+use Rattle.envelope.specs.Numbers.{TwoBytes, ThreeBytes, FourBytes, TwoDigits, FourDigits}
 use Rattle.envelope.specs.Promise.{Only₂}
 use Rattle.envelope.specs.Qos.{QosFields, splitting, QosAnswer, joining, toldQos, toldJoining, Splits, Joins}
 use Rattle.envelope.specs.Qos as qos
@@ -160,8 +161,25 @@ only-three-bytes a b c x y p q = p ∙ sym q
 pub only-four-bytes : (a b c d : ℕ) → Only₁ (FourBytes a b c d)
 only-four-bytes a b c d x y p q = p ∙ sym q
 
+pub only-two-digits : (n : ℕ) → Only₁ (TwoDigits n)
+only-two-digits n x y p q = p ∙ sym q
+
 pub only-four-digits : (n : ℕ) → Only₁ (FourDigits n)
 only-four-digits n x y p q = p ∙ sym q
+
+-- ---- flags
+
+pub only-tells-time : (flags : ℕ) → Only₁ (TellsTime flags)
+only-tells-time flags x y p q = p ∙ sym q
+
+pub only-tells-encryption : (flags : ℕ) → Only₁ (TellsEncryption flags)
+only-tells-encryption flags x y p q = p ∙ sym q
+
+pub only-tells-compression : (flags : ℕ) → Only₁ (TellsCompression flags)
+only-tells-compression flags x y p q = p ∙ sym q
+
+pub only-tells-kind : (flags : ℕ) → Only₁ (TellsKind flags)
+only-tells-kind flags x y p q = p ∙ sym q
 
 -- ---- QoS
 

@@ -19,8 +19,8 @@ use Rattle.envelope.specs.Flags.{kindOf, kindNone, kindCrc}
 use Rattle.envelope.specs.Heading.{flagsOf, variableSize, dataLength, fieldPlace}
 use Rattle.envelope.specs.IntegrityField.{badIntegrity}
 use Rattle.envelope.specs.Layout.{headerVersion, headerSize, routingSize, addressesPlace, fieldSize, largestAddress, largestBody}
-use Rattle.envelope.specs.Message.{unaddressed, Given, inTwo, inThree, inFour, variableBytes, variableOf, beforeField, fieldNumber, message}
-use Rattle.envelope.specs.Numbers.{byteAt, twoAt, threeAt, fourAt}
+use Rattle.envelope.specs.Message.{unaddressed, Given, variableBytes, variableOf, beforeField, fieldNumber, message}
+use Rattle.envelope.specs.Numbers.{byteAt, twoAt, threeAt, fourAt, inTwo, inThree, inFour}
 use Rattle.envelope.specs.Reading.{sourceOf, destinationOf, headerOf, addressingOf, integrityOf, fieldsOf}
 use Rattle.envelope.specs.RoundTrips.{routingOf, sourceBytes, destinationBytes, applicationNumber, givenBy}
 use Rattle.envelope.specs.Writing.{hasZero, badEnd, badEnds, strayIntegrity}

@@ -15,10 +15,14 @@ use Rattle.envelope.specs.Flags.{kindOf, kindNone, kindCrc, kindUnassign
 use Rattle.envelope.specs.Heading.{flagsOf, variableSize, fieldPlace, wrongVersion, badVariableSize, passed, refused, heading}
 use Rattle.envelope.specs.IntegrityField.{badIntegrity}
 use Rattle.envelope.specs.Layout.{smallestVariable, largestVariable}
-use Rattle.envelope.specs.Numbers.{byteAt, threeBytes, fourBytes, threeAt, fourAt}
+use Rattle.envelope.specs.Numbers.{byteAt, twoBytes, threeBytes, fourBytes, twoAt, threeAt, fourAt}
 use Rattle.envelope.specs.Reading.{tooShort, wrongLength, fieldsOf, readingWhole, after, reading}
 
 -- ---- the numbers at a place
+
+pub twoAt-is : (s : List ℕ) (i : ℕ) → twoAt s i ≡ twoBytes (byteAt s i) (byteAt s (i + 1))
+unfolding twoAt
+twoAt-is s i = refl
 
 pub threeAt-is : (s : List ℕ) (i : ℕ) → threeAt s i ≡ threeBytes (byteAt s i) (byteAt s (i + 1)) (byteAt s (i + 2))
 unfolding threeAt

@@ -13,7 +13,7 @@ use Rattle.sum.proofs.Flips.{detects-three-flips, placesApart-same, bitsApart-s
 use Rattle.sum.proofs.Laws.{crc32-lt, bytes-take}
 use Rattle.envelope.specs.Demand3.{DeclaresCrc}
 use Rattle.envelope.specs.Layout.{fieldSize}
-use Rattle.envelope.specs.Message.{inFour}
+use Rattle.envelope.specs.Numbers.{inFour}
 use Rattle.envelope.specs.TwoBits.{longest, summed, TwoBitsAnywhere, ThreeBitsAnywhere}
 use Rattle.envelope.proofs.DemandLaws.{sum-s, sum-t, field-s, field-t, same-before, same-sums}
 

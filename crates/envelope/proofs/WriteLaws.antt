@@ -13,7 +13,8 @@ use lib.Seq.{take-append-seam}
 use Rattle.envelope.specs.Flags.{kindOf, badFlags}
 use Rattle.envelope.specs.Helpers.{pasted, variableLength, Allowed}
 use Rattle.envelope.specs.Layout.{headerSize, fieldSize, largestVariable, largestAddress, largestBody, largestMessage}
-use Rattle.envelope.specs.Message.{RoutingFields, unaddressed, addressed, Given, inFour, headerBytes, variableBytes, variableOf, beforeField, fieldNumber, message}
+use Rattle.envelope.specs.Message.{RoutingFields, unaddressed, addressed, Given, headerBytes, variableBytes, variableOf, beforeField, fieldNumber, message}
+use Rattle.envelope.specs.Numbers.{inFour}
 use Rattle.envelope.specs.Writing.{hasZero, badEnd, strayEnds, badEnds, bodyTooLong, strayIntegrity, WriteOutcome, written, refused, writing, afterWriting, wrote, writeAnswer, wroteLength, WritesNoLonger, RefusalWritesNothing}
 use Rattle.envelope.proofs.BoolLaws.{neither}
 use Rattle.envelope.proofs.PastedLaws.{pasted-more}

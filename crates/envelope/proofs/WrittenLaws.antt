@@ -16,8 +16,8 @@ use Rattle.envelope.specs.Flags.{kindOf, kindNone, kindCrc}
 use Rattle.envelope.specs.Heading.{fieldPlace, badVariableSize}
 use Rattle.envelope.specs.IntegrityField.{badIntegrity}
 use Rattle.envelope.specs.Layout.{headerSize, routingSize, addressesPlace, fieldSize, largestAddress, smallestVariable, largestVariable}
-use Rattle.envelope.specs.Message.{RoutingFields, unaddressed, addressed, Given, inFour, headerBytes, variableBytes, variableOf, beforeField, fieldNumber, message}
-use Rattle.envelope.specs.Numbers.{twoAt, threeAt, fourAt}
+use Rattle.envelope.specs.Message.{RoutingFields, unaddressed, addressed, Given, headerBytes, variableBytes, variableOf, beforeField, fieldNumber, message}
+use Rattle.envelope.specs.Numbers.{twoAt, threeAt, fourAt, inFour}
 use Rattle.envelope.specs.Reading.{headerOf, addressingOf, integrityOf, fieldsOf, reading}
 use Rattle.envelope.specs.RoundTrips.{routingOf, sourceBytes, destinationBytes, applicationNumber, givenBy, ReadsAs}
 use Rattle.envelope.specs.Writing.{hasZero, badEnd, strayEnds, strayIntegrity}

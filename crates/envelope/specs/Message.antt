@@ -1,15 +1,15 @@
 -- The bytes of a message, from what a sender gives: header, variable header, body, integrity field. RULES 3.
 -- Header version, V and D are not given: they follow.
-use Prim.Native.Nat.{ℕ, _/_, _%_}
+use Prim.Native.Nat.{ℕ}
 use mathlib.Core.Bool.{cond}
 use mathlib.Core.List.{List, [], _∷_, _++_}
-use mathlib.Core.Path.{_≡_}
 use lib.Dec.{eqb}
 use lib.ListN.{length}
 use Rattle.sum.specs.Crc.{crc32}
 use Rattle.envelope.specs.Fields.{HeaderFields}
 use Rattle.envelope.specs.Flags.{kindOf, kindNone, kindCrc}
 use Rattle.envelope.specs.Layout.{headerVersion}
+use Rattle.envelope.specs.Numbers.{inTwo, inThree, inFour}
 
 pub data RoutingFields : Type 0 where
   unaddressed : RoutingFields
@@ -23,20 +23,6 @@ pub record Given : Type 0 where
   pub destination : List ℕ
   pub body : List ℕ
   pub application : ℕ
-
--- a number's two, three and four bytes, the highest first
-abbrev pub inTwo : ℕ → List ℕ
-inTwo n = n / 256 ∷ n % 256 ∷ []
-
-abbrev pub inThree : ℕ → List ℕ
-inThree n = n / 65536 ∷ n / 256 % 256 ∷ n % 256 ∷ []
-
-abbrev pub inFour : ℕ → List ℕ
-inFour n = n / 16777216 ∷ n / 65536 % 256 ∷ n / 256 % 256 ∷ n % 256 ∷ []
-
--- what `numbers::four_digits` promises
-abbrev pub FourDigits : ℕ → List ℕ → Type 0
-FourDigits n r = r ≡ inFour n
 
 -- the 17 bytes of a header, with V and D
 abbrev pub headerBytes : HeaderFields → ℕ → ℕ → List ℕ

@@ -3,6 +3,7 @@ ghost use mathlib.Core.Path.{_≡_};
 ghost use Rattle.envelope.specs.Lateness.{lateAfter, JudgesLateness};
 use crate::fields::Addressing;
 use crate::fields::Envelope;
+use crate::flags::time_is_absolute;
 
 pub enum Lateness {
     NoClock,
@@ -25,7 +26,7 @@ pub fn judge(envelope: Envelope, clock: u64) -> Lateness
             if envelope.header.time == 0 {
                 return Lateness::NoClock;
             }
-            if envelope.header.flags % 2 != 1 {
+            if !time_is_absolute(envelope.header.flags) {
                 return Lateness::NoClock;
             }
             if late_after(envelope.header.time, ttl, clock) {

@@ -1,9 +1,9 @@
-// EMP envelopes: reading any bytes, what the first of them announce, writing a message, and what an accepted envelope tells (QoS, lateness, sequence).
+// EMP envelopes: reading any bytes, what the first of them announce, writing a message, and what an accepted envelope tells (flags, QoS, lateness, sequence).
 // Rests on the crate `sum`, by its promise alone.
 mod addresses;
 pub mod announcer;
 pub mod fields;
-mod flags;
+pub mod flags;
 mod integrity_field;
 pub mod lateness;
 pub mod numbers;

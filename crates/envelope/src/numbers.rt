@@ -2,8 +2,7 @@
 ghost use mathlib.Core.Path.{_≡_};
 ghost use Prim.Native.Nat.{_+_, _<_, _≤_};
 ghost use lib.ListN.{length};
-ghost use Rattle.envelope.specs.Message.{FourDigits};
-ghost use Rattle.envelope.specs.Numbers.{TwoBytes, ThreeBytes, FourBytes, twoAt, threeAt, fourAt};
+ghost use Rattle.envelope.specs.Numbers.{TwoBytes, ThreeBytes, FourBytes, twoAt, threeAt, fourAt, inThree, TwoDigits, FourDigits};
 
 pub fn two_bytes(a: u8, b: u8) -> u16
     ensures { λ r. ⌜ TwoBytes a b r ⌝ }
@@ -21,6 +20,24 @@ pub fn four_bytes(a: u8, b: u8, c: u8, d: u8) -> u32
     ensures { λ r. ⌜ FourBytes a b c d r ⌝ }
 {
     wide(a) * 16777216 + wide(b) * 65536 + wide(c) * 256 + wide(d)
+}
+
+pub fn two_digits(number: u16) -> [u8; 2]
+    ensures { λ r. ⌜ TwoDigits number r ⌝ }
+{
+    [(number / 256) as u8, (number % 256) as u8]
+}
+
+// Three bytes do not hold every number.
+pub(crate) fn three_digits(number: u32) -> [u8; 3]
+    requires { ⌜ number < 16777216 ⌝ }
+    ensures { λ r. ⌜ r ≡ inThree number ⌝ }
+{
+    [
+        (number / 65536) as u8,
+        (number / 256 % 256) as u8,
+        (number % 256) as u8,
+    ]
 }
 
 pub fn four_digits(number: u32) -> [u8; 4]

@@ -25,15 +25,16 @@ pub fn distance(old: u32, new: u32) -> i32
 pub fn judge(old: u32, new: u32) -> Sequence
     ensures { λ r. ⌜ JudgesSequence old new r ⌝ }
 {
-    let steps = wrapping_sub_u32(new, old);
-    if steps == 0 {
+    let distance = distance(old, new);
+    if distance == 0 {
         return Sequence::Repeat;
     }
-    if steps == 1 {
+    if distance == 1 {
         return Sequence::Next;
     }
-    if steps < HALF {
-        return Sequence::Ahead(steps);
+    if 2 <= distance {
+        return Sequence::Ahead(distance as u32);
     }
-    Sequence::Behind(wrapping_sub_u32(old, new))
+    // In 64 bits every distance has its opposite.
+    Sequence::Behind((0 - (distance as i64)) as u32)
 }

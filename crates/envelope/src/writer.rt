@@ -14,6 +14,8 @@ use crate::fields::Envelope;
 use crate::fields::Header;
 use crate::flags;
 use crate::numbers::four_digits;
+use crate::numbers::three_digits;
+use crate::numbers::two_digits;
 
 pub enum Routing {
     Absent,
@@ -211,12 +213,9 @@ fn put_variable(
     match routing {
         Routing::Absent => place,
         Routing::Present { ttl, qos } => {
-            let front = [
-                (ttl / 256) as u8,
-                (ttl % 256) as u8,
-                (qos / 256) as u8,
-                (qos % 256) as u8,
-            ];
+            let ttl = two_digits(ttl);
+            let qos = two_digits(qos);
+            let front = [ttl[0], ttl[1], qos[0], qos[1]];
             let source_place = put(buffer, place, &front);
             let destination_place = put_end(buffer, source_place, source);
             put_end(buffer, destination_place, destination)
@@ -251,23 +250,27 @@ fn header_digits(header: Header, v: usize, d: usize) -> [u8; Envelope::HEADER_SI
     requires { ⌜ (v < 256) × (d ≤ largestBody) ⌝ }
     ensures { λ r. ⌜ r ≡ headerBytes (toldHeader header) v d ⌝ }
 {
+    let message_type = two_digits(header.message_type);
+    let data_length = three_digits(d as u32);
+    let number = four_digits(header.number);
+    let time = four_digits(header.time);
     [
         Envelope::HEADER_VERSION,
-        (header.message_type / 256) as u8,
-        (header.message_type % 256) as u8,
+        message_type[0],
+        message_type[1],
         header.version,
         header.flags,
-        (d / 65536) as u8,
-        (d / 256 % 256) as u8,
-        (d % 256) as u8,
-        (header.number / 16777216) as u8,
-        (header.number / 65536 % 256) as u8,
-        (header.number / 256 % 256) as u8,
-        (header.number % 256) as u8,
-        (header.time / 16777216) as u8,
-        (header.time / 65536 % 256) as u8,
-        (header.time / 256 % 256) as u8,
-        (header.time % 256) as u8,
+        data_length[0],
+        data_length[1],
+        data_length[2],
+        number[0],
+        number[1],
+        number[2],
+        number[3],
+        time[0],
+        time[1],
+        time[2],
+        time[3],
         v as u8,
     ]
 }

@@ -14,8 +14,7 @@ use Rattle.envelope.proofs.DemandLaws.{bytes-take, bytes-drop}
 use Rattle.envelope.proofs.RebuiltLaws.{four-of}
 use Rattle.envelope.proofs.RuleLaws.{fourAt-is}
 use Rattle.envelope.specs.Fields.{Span, Fields, Answer, accepted, refused, partOf}
-use Rattle.envelope.specs.Message.{inFour}
-use Rattle.envelope.specs.Numbers.{byteAt}
+use Rattle.envelope.specs.Numbers.{byteAt, inFour}
 use Rattle.envelope.specs.Promise.{Bytes}
 use Rattle.envelope.specs.Reading.{reading}
 use Rattle.envelope.specs.Refusals.{plainly}

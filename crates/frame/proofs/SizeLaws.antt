@@ -10,7 +10,7 @@ use Rattle.envelope.proofs.DemandLaws.{bytes-take, bytes-drop}
 use Rattle.envelope.proofs.ReadingLaws.{accepted-most}
 use Rattle.envelope.specs.Fields.{Span, Answer, accepted, refused, partOf}
 use Rattle.envelope.specs.Layout.{largestMessage}
-use Rattle.envelope.specs.Message.{inFour}
+use Rattle.envelope.specs.Numbers.{inFour}
 use Rattle.envelope.specs.Reading.{reading}
 use Rattle.envelope.specs.Refusals.{plainly}
 use Rattle.frame.specs.Frames.{dataFrame, acknowledgmentFrame}

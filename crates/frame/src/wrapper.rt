@@ -60,18 +60,20 @@ fn header_digits(message_type: u8, commid: u32, size: usize) -> [u8; layout::BOD
     requires { ⌜ size ≤ largestLength ⌝ }
     ensures { λ r. ⌜ r ≡ headerBytes «message_type» commid size ⌝ }
 {
+    let commid = four_digits(commid);
+    let size = four_digits(size as u32);
     [
         layout::STX,
         layout::PROTOCOL_VERSION,
-        (commid / 16777216) as u8,
-        (commid / 65536 % 256) as u8,
-        (commid / 256 % 256) as u8,
-        (commid % 256) as u8,
+        commid[0],
+        commid[1],
+        commid[2],
+        commid[3],
         message_type,
         layout::MESSAGE_VERSION,
-        (size / 16777216) as u8,
-        (size / 65536 % 256) as u8,
-        (size / 256 % 256) as u8,
-        (size % 256) as u8,
+        size[0],
+        size[1],
+        size[2],
+        size[3],
     ]
 }

@@ -12,12 +12,13 @@ use lib.ListN.{length, drop, List·getD-eq-default}
 use lib.Seq.{ext-getD, getD-take, getD-drop}
 use Rattle.envelope.proofs.DemandLaws.{bytes-take, bytes-drop}
 use Rattle.envelope.proofs.ReadingLaws.{accepted-least}
+use Rattle.envelope.proofs.RuleLaws.{twoAt-is}
 use Rattle.envelope.proofs.TwoBitsLaws.{two-bits-anywhere, three-bits-anywhere}
 use Rattle.envelope.proofs.WindowLaws.{any-window, middle-window}
 use Rattle.envelope.specs.AnyWindow.{TwoAndTwoAt, OneDifference}
 use Rattle.envelope.specs.Demand3.{Window, before, field, SameOutside}
 use Rattle.envelope.specs.Layout.{leastSize}
-use Rattle.envelope.specs.Numbers.{byteAt, twoBytes, twoAt}
+use Rattle.envelope.specs.Numbers.{byteAt, twoBytes}
 use Rattle.envelope.specs.Promise.{Bytes}
 use Rattle.golden.specs.Checking.{counted, checking}
 use Rattle.golden.specs.File.{countOf, recordAt, judgedAt}
@@ -74,8 +75,11 @@ module _ (f g : List ℕ) (r lo hi : ℕ) (lf : r < countOf f) (lg : r < countOf
   same-head i h = record-byte f r i (omega arith) ∙ same .0 (r * recordSize + i) (omega arith) ∙ sym (record-byte g r i (omega arith))
 
   same-stored : storedLength (recordAt f r) ≡ storedLength (recordAt g r)
-  unfolding storedLength storedWord twoAt
-  same-stored = ap₂ twoBytes (same-head 0 (omega arith)) (same-head 1 (omega arith))
+  unfolding storedLength storedWord
+  same-stored =
+      twoAt-is (recordAt f r) 0
+      ∙ ap₂ twoBytes (same-head 0 (omega arith)) (same-head 1 (omega arith))
+      ∙ sym (twoAt-is (recordAt g r) 0)
 
   long-s : length s ≡ storedLength (recordAt f r)
   long-s = message-long f r lf (stored-most f r gf)

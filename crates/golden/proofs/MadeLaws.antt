@@ -10,11 +10,11 @@ use lib.Dec.{ltb}
 use lib.ListN.{length, take, drop, getD, replicate}
 use lib.Seq.{take-all, take-append-seam, drop-append-seam, drop-append-add}
 use Rattle.envelope.proofs.ReadingLaws.{accepted-least, long-not-1}
+use Rattle.envelope.proofs.RuleLaws.{twoAt-is}
 use Rattle.envelope.proofs.WrittenLaws.{two-back}
 use Rattle.envelope.specs.Fields.{Fields, Refusal, Answer, accepted}
 use Rattle.envelope.specs.Fields as envelope
-use Rattle.envelope.specs.Message.{inTwo}
-use Rattle.envelope.specs.Numbers.{twoAt}
+use Rattle.envelope.specs.Numbers.{inTwo}
 use Rattle.envelope.specs.Reading.{reading}
 use Rattle.envelope.specs.Refusals.{plainly, passingOn, numbersOf}
 use Rattle.golden.specs.Checking.{counted, checkFrom, checking}
@@ -31,8 +31,8 @@ use Rattle.golden.proofs.RecordLaws.{length-least, length-most, length-
 -- ---- the parts of a record that was made
 
 stored-back : (m : List ℕ) → storedLength (recordOf m) ≡ length m
-unfolding storedLength storedWord twoAt recordOf
-stored-back m = two-back (length m)
+unfolding storedLength storedWord recordOf
+stored-back m = twoAt-is (recordOf m) 0 ∙ two-back (length m)
 
 message-back : (m : List ℕ) → messageOf (recordOf m) ≡ m
 unfolding recordOf

@@ -8,7 +8,7 @@ use lib.Dec.{eqb, ltb}
 use lib.ListN.{length, replicate}
 use Rattle.envelope.specs.Fields.{Answer, accepted}
 use Rattle.envelope.specs.Fields as read
-use Rattle.envelope.specs.Message.{inTwo}
+use Rattle.envelope.specs.Numbers.{inTwo}
 use Rattle.envelope.specs.Reading.{reading}
 use Rattle.envelope.specs.Refusals.{Refused, plainly, passingOn}
 use Rattle.golden.specs.Record.{recordSize, messageRoom}

@@ -9,6 +9,7 @@ use crate::refusal::Refusal;
 use envelope::Envelope;
 use envelope::Reading;
 use envelope::numbers::two_bytes;
+use envelope::numbers::two_digits;
 use envelope::read;
 
 pub struct Record {
@@ -43,9 +44,9 @@ impl Record {
         ensures { λ r. ⌜ r .bytes ≡ recordOf (now (message .entry)) ⌝ }
     {
         let mut fresh = [0u8; Record::SIZE];
-        let size = message.len();
-        fresh[0] = (size / 256) as u8;
-        fresh[1] = (size % 256) as u8;
+        let size = two_digits(message.len() as u16);
+        fresh[0] = size[0];
+        fresh[1] = size[1];
         bytes::copy(message, &mut fresh[Record::HEAD_SIZE..]);
         Record { bytes: fresh }
     }

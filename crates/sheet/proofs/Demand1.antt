@@ -6,9 +6,10 @@ use denote.Ref.{RefT}
 use Rattle.sum.specs.Promise.{Only₁, Sums}
 use Rattle.sum.proofs.Laws.{only-sums}
 use Rattle.envelope.specs.Announcing.{Announces}
+use Rattle.envelope.specs.Flags.{TellsTime, TellsEncryption, TellsCompression, TellsKind}
 use Rattle.envelope.specs.Lateness.{JudgesLateness}
-use Rattle.envelope.specs.Message.{Given, FourDigits}
-use Rattle.envelope.specs.Numbers.{TwoBytes, ThreeBytes, FourBytes}
+use Rattle.envelope.specs.Message.{Given}
+use Rattle.envelope.specs.Numbers.{TwoBytes, ThreeBytes, FourBytes, TwoDigits, FourDigits}
 use Rattle.envelope.specs.Promise.{Only₂}
 use Rattle.envelope.specs.Qos.{QosFields, Splits, Joins}
 use Rattle.envelope.specs.Rewriting.{Rewrites, RefusedRewriteWritesNothing}
@@ -104,8 +105,23 @@ three-bytes-has-one-answer = only.only-three-bytes
 pub four-bytes-has-one-answer : (a b c d : ℕ) → Only₁ (FourBytes a b c d)
 four-bytes-has-one-answer = only.only-four-bytes
 
+pub two-digits-has-one-answer : (n : ℕ) → Only₁ (TwoDigits n)
+two-digits-has-one-answer = only.only-two-digits
+
 pub four-digits-has-one-answer : (n : ℕ) → Only₁ (FourDigits n)
 four-digits-has-one-answer = only.only-four-digits
+
+pub time-format-has-one-answer : (flags : ℕ) → Only₁ (TellsTime flags)
+time-format-has-one-answer = only.only-tells-time
+
+pub encryption-has-one-answer : (flags : ℕ) → Only₁ (TellsEncryption flags)
+encryption-has-one-answer = only.only-tells-encryption
+
+pub compression-has-one-answer : (flags : ℕ) → Only₁ (TellsCompression flags)
+compression-has-one-answer = only.only-tells-compression
+
+pub kind-has-one-answer : (flags : ℕ) → Only₁ (TellsKind flags)
+kind-has-one-answer = only.only-tells-kind
 
 pub split-has-one-answer : (q : ℕ) → Only₁ (Splits q)
 split-has-one-answer = only.only-splits

@@ -1,5 +1,6 @@
 -- For each public promise two answers that a careless program would give, each refuted by computing.
 -- They show that no promise is met by whatever comes.
+use mathlib.Core.Bool.{true, false}
 use mathlib.Core.List.{List, [], _∷_, _++_}
 use mathlib.Core.Path.{_≡_, refl, sym, ap, _∙_}
 use Prim.Native.Nat.{ℕ}
@@ -12,12 +13,12 @@ use Rattle.sum.specs.Vectors.{digits}
 use Rattle.sum.proofs.Computed.{vectors, crc32-computes}
 use Rattle.envelope.specs.Addresses.{badAddresses}
 use Rattle.envelope.specs.Fields.{absent, refusal}
-use Rattle.envelope.specs.Flags.{badFlags}
+use Rattle.envelope.specs.Flags.{badFlags, TellsTime, TellsEncryption, TellsCompression, TellsKind}
 use Rattle.envelope.specs.Heading.{announced, badVariableSize, heading}
 use Rattle.envelope.specs.IntegrityField.{badIntegrity}
 use Rattle.envelope.specs.Lateness.{latenessOf, JudgesLateness}
-use Rattle.envelope.specs.Message.{Given, beforeField, fieldNumber, message, FourDigits}
-use Rattle.envelope.specs.Numbers.{twoAt, threeAt, fourAt, TwoBytes, ThreeBytes, FourBytes}
+use Rattle.envelope.specs.Message.{Given, beforeField, fieldNumber, message}
+use Rattle.envelope.specs.Numbers.{twoAt, threeAt, fourAt, TwoBytes, ThreeBytes, FourBytes, TwoDigits, FourDigits}
 use Rattle.envelope.specs.Qos.{QosFields, splitting, joining, Splits, Joins}
 use Rattle.envelope.specs.Reading.{readingWhole, reading}
 use Rattle.envelope.specs.Rewriting.{rewrote, unread, Rewrites}
@@ -38,6 +39,7 @@ use Rattle.envelope.specs.declared.sequence.Sequence.the-variants.{Ahead, Behin
 use Rattle.envelope.specs.declared.writer.WriteFault.the-variants.{StrayIntegrity, NoRoom}
 use Rattle.envelope.specs.declared.writer.Writing.{Writing}
 use Rattle.envelope.specs.declared.writer.Writing.the-variants as writer
+use Rattle.envelope.proofs.BoolLaws.{true-is-not-false}
 use Rattle.sheet.specs.Cases.{M, likeM}
 use Rattle.sheet.proofs.Apart.{apart, accepted-not-refused, refusal-number}
 use Rattle.sheet.proofs.Cases.{starred}
@@ -182,11 +184,43 @@ four-bytes-are-big-endian kept = apart 0x04030201 0x01020304 tt kept
 pub four-bytes-are-four : FourBytes 1 2 3 4 0x020304 → ⊥
 four-bytes-are-four kept = apart 0x020304 0x01020304 tt kept
 
+pub two-digits-are-big-endian : TwoDigits 0x0102 (2 ∷ 1 ∷ []) → ⊥
+two-digits-are-big-endian kept = apart 2 1 tt (ap (λ (s : List ℕ). getD s 0 0) kept)
+
+pub two-digits-are-two : TwoDigits 1 (1 ∷ []) → ⊥
+two-digits-are-two kept = apart 1 2 tt (ap length kept)
+
 pub four-digits-are-big-endian : FourDigits 0x01020304 (4 ∷ 3 ∷ 2 ∷ 1 ∷ []) → ⊥
 four-digits-are-big-endian kept = apart 4 1 tt (ap (λ (s : List ℕ). getD s 0 0) kept)
 
 pub four-digits-are-four : FourDigits 1 (1 ∷ []) → ⊥
 four-digits-are-four kept = apart 1 4 tt (ap length kept)
+
+-- ---- flags: one fixed answer; another bit's; the kind left in its place; a bit too many for the kind
+
+pub time-is-not-always-relative : TellsTime 1 false → ⊥
+time-is-not-always-relative kept = true-is-not-false kept refl
+
+pub time-format-is-bit-0 : TellsTime 2 true → ⊥
+time-format-is-bit-0 kept = true-is-not-false refl kept
+
+pub encrypted-is-not-always-no : TellsEncryption 2 false → ⊥
+encrypted-is-not-always-no kept = true-is-not-false kept refl
+
+pub encrypted-is-bit-1 : TellsEncryption 4 true → ⊥
+encrypted-is-bit-1 kept = true-is-not-false refl kept
+
+pub compressed-is-not-always-no : TellsCompression 4 false → ⊥
+compressed-is-not-always-no kept = true-is-not-false kept refl
+
+pub compressed-is-bit-2 : TellsCompression 2 true → ⊥
+compressed-is-bit-2 kept = true-is-not-false refl kept
+
+pub kind-is-not-left-in-its-place : TellsKind 8 8 → ⊥
+kind-is-not-left-in-its-place kept = apart 8 1 tt kept
+
+pub kind-is-two-bits : TellsKind 0x20 4 → ⊥
+kind-is-two-bits kept = apart 4 0 tt kept
 
 -- ---- qos::split: priority taken for class; all zero. qos::join: a number that does not fit run round; all refused
 

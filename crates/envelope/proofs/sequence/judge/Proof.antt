@@ -1,45 +1,77 @@
--- `sequence::judge` tests the wrapped difference: 0, 1, below its half, and past it.
-use mathlib.Core.Path.{_≡_}
-use native.Mathlib.Omega.{arith}
+-- `sequence::judge` goes by the signed distance: 0, 1, 2 and up, and below 0.
+use mathlib.Core.Path.{ap, sym, _∙_}
 use borrow.Author.Needs.{needs}
-use Rattle.envelope.proofs.SequenceLaws.{steps-are, steps-back, tells-ahead, tells-behind}
-use Rattle.envelope.specs.Sequence.{stepsOn}
+use lib.IntN.{pos, natAbs}
+use lib.Signed.{leZ}
+use mir.Facts.{toZ-ofZ, sfits-widen, fits-natAbs}
+use mir.Syntax.{w32}
+use mir.Val.{SFits}
+use Rattle.envelope.proofs.SequenceLaws.{by-bits, Above, above, Below, below, below-fits, opposite-fits, opposite}
+use Rattle.envelope.specs.Sequence.{behind, sequenceOf}
 use Rattle.envelope.proofs.sequence.judge.Statement.{statement}
 use Rattle.envelope.proofs.sequence.judge.Tie as tie
 
--- the wrapped difference is the definition's
-steps-is : (c : tie.After-wrapping-sub-u32) → c .wrapping-sub-u32 .result ≡ stepsOn (c .before .args .old) (c .before .args .new)
-steps-is c = steps-are (c .before .args .old) (c .before .args .new) (c .wrapping-sub-u32 .result) (omega arith) (omega arith) (omega arith) (c .wrapping-sub-u32 .ensures)
+-- a distance is one of 32 bits
+fits : (c : tie.After-distance) → SFits w32 (c .distance .result)
+fits c = record { sfits = c .distance .ok }
 
-wrapping-sub-u32-requires : tie.Need-wrapping-sub-u32-requires
-wrapping-sub-u32-requires c κs = search needs
+distance-requires : tie.Need-distance-requires
+distance-requires c κs = search needs
 
 returns : tie.Need-returns
-returns c = rw (← steps-is (c .before), c .if1 .taken)
+returns c = rw (← c .before .distance .ensures, by-bits _ (fits (c .before)) 0 (c .if1 .taken))
 
 returns-2 : tie.Need-returns-2
-returns-2 c = rw (← steps-is (c .before .before), c .if2 .taken)
+returns-2 c = rw (← c .before .before .distance .ensures, by-bits _ (fits (c .before .before)) 1 (c .if2 .taken))
+
+-- 2 and up: the bits are read back as the distance
+is-above : (c : tie.Then3) → Above (c .before .before .before .distance .result)
+is-above c = above _ (ap (leZ (pos 2)) (sym (toZ-ofZ (fits (c .before .before .before)))) ∙ c .if3 .taken)
+
+cast-t5 : tie.Need-cast-t5
+cast-t5 c =
+    let f = fits (c .before .before .before) in
+    rw (toZ-ofZ f) (rw (is-above c .is) tt, fits-natAbs tt f)
 
 returns-3 : tie.Need-returns-3
-returns-3 c = rw (← steps-is (c .before .before .before)) (tells-ahead (c .before .before .before .wrapping-sub-u32 .result) (omega arith) (c .if3 .taken))
+returns-3 c =
+    let w = c .before .before .before in
+    rw (← w .distance .ensures, toZ-ofZ (fits w)) (rw (is-above c .is))
 
-wrapping-sub-u32-requires-2 : tie.Need-wrapping-sub-u32-requires-2
-wrapping-sub-u32-requires-2 c κs = search needs
+-- below 0: none of the tests before was met
+is-below : (c : tie.Else3) → Below (c .before .before .before .distance .result)
+is-below c =
+    let f = fits (c .before .before .before) in
+    below _ (c .before .before .if1 .left) (c .before .if2 .left) (ap (leZ (pos 2)) (sym (toZ-ofZ f)) ∙ c .if3 .left)
+
+cast-t6 : tie.Need-cast-t6
+cast-t6 c = let f = fits (c .before .before .before) in rw (toZ-ofZ f) (sfits-widen tt f)
+
+sub-t7 : tie.Need-sub-t7
+sub-t7 c = opposite-fits _ (fits (c .before .before .before)) (is-below c)
+
+cast-t8 : tie.Need-cast-t8
+cast-t8 c =
+    let f = fits (c .before .before .before) in
+    let b = is-below c in
+    rw (opposite _ f b) (tt, fits-natAbs tt (below-fits _ f b))
 
 returns-4 : tie.Need-returns-4
 returns-4 c =
-    let w = c .before .before .before .before in
-    rw (← steps-is w)
-    (tells-behind (w .wrapping-sub-u32 .result) (c .wrapping-sub-u322 .result) (c .before .if3 .left) (omega arith)
-    (steps-back (w .before .args .old) (w .before .args .new) (w .wrapping-sub-u32 .result) (c .wrapping-sub-u322 .result) (omega arith) (omega arith) (omega arith) (omega arith) (omega arith) (w .wrapping-sub-u32 .ensures) (c .wrapping-sub-u322 .ensures)))
+    let w = c .before .before .before in
+    let b = is-below c in
+    ap behind (ap natAbs (opposite _ (fits w) b)) ∙ ap sequenceOf (sym (b .is) ∙ w .distance .ensures)
 
 pub judge-spec : {M : Type 1} → statement M
 judge-spec =
     tie.close
     (tie.spec
-    wrapping-sub-u32-requires
+    distance-requires
     returns
     returns-2
+    cast-t5
     returns-3
-    wrapping-sub-u32-requires-2
+    cast-t6
+    sub-t7
+    cast-t8
     returns-4)

@@ -5,7 +5,7 @@ use native.Mathlib.Omega.{arith}
 use borrow.Author.Needs.{needs}
 use lib.ListN.{length}
 use Rattle.envelope.proofs.PastedLaws.{pasted-none, pasted-ends}
-use Rattle.envelope.specs.Message.{inTwo}
+use Rattle.envelope.specs.Numbers.{inTwo}
 use Rattle.envelope.proofs.writer.put_variable.Statement.{statement}
 use Rattle.envelope.proofs.writer.put_variable.Tie as tie
 
@@ -21,29 +21,35 @@ enum-told c = search needs
 enum-known-routing : tie.Need-enum-known-routing
 enum-known-routing c = search needs
 
-cast-t13 : tie.Need-cast-t13
-cast-t13 c = search needs
+two-digits-requires : tie.Need-two-digits-requires
+two-digits-requires c κs = search needs
 
-cast-t15 : tie.Need-cast-t15
-cast-t15 c = search needs
+two-digits-requires-2 : tie.Need-two-digits-requires-2
+two-digits-requires-2 c κs = search needs
 
-cast-t17 : tie.Need-cast-t17
-cast-t17 c = search needs
+array-read-t17 : tie.Need-array-read-t17
+array-read-t17 c = search needs
 
-cast-t19 : tie.Need-cast-t19
-cast-t19 c = search needs
+array-read-t20 : tie.Need-array-read-t20
+array-read-t20 c = search needs
+
+array-read-t23 : tie.Need-array-read-t23
+array-read-t23 c = search needs
+
+array-read-t26 : tie.Need-array-read-t26
+array-read-t26 c = search needs
 
 slice-aggregate-put : tie.Need-slice-aggregate-put
 slice-aggregate-put c = search needs
 
 put-requires : tie.Need-put-requires
-put-requires c κs = let r = room (c .before .before .before) in omega arith
+put-requires c κs = let r = room (c .before .before .before .before .before) in omega arith
 
 put-end-requires : tie.Need-put-end-requires
-put-end-requires c κs = let r = room (c .before .before .before .before .before .before .before) in omega arith
+put-end-requires c κs = let r = room (c .before .before .before .before .before .before .before .before .before) in omega arith
 
 put-end-requires-2 : tie.Need-put-end-requires-2
-put-end-requires-2 c κs = let r = room (c .before .before .before .before .before .before .before .before .before .before .before) in omega arith
+put-end-requires-2 c κs = let r = room (c .before .before .before .before .before .before .before .before .before .before .before .before .before) in omega arith
 
 returns : tie.Need-returns
 returns c =
@@ -58,11 +64,13 @@ returns-2 c =
     let third = c .before .before in
     let second = third .before .before .before .before in
     let first = second .before .before .before .before in
-    let routing = first .before .before .before .before in
+    let qos = first .before .before .before in
+    let ttl = qos .before in
+    let routing = ttl .before .before in
     let a = routing .before .before .before .before .before .args in
     let r = room routing in (
       rw (routing .routing .given .1) (omega arith),
-      rw (routing .routing .given .1, third .put-end2 .ensures .1, second .put-end .ensures .1, first .put .ensures .1, second .put-end .ensures .0, first .put .ensures .0)
+      rw (routing .routing .given .1, third .put-end2 .ensures .1, second .put-end .ensures .1, first .put .ensures .1, second .put-end .ensures .0, first .put .ensures .0, qos .two-digits2 .ensures, ttl .two-digits .ensures)
           (pasted-ends (a .buffer .now) (a .place) (inTwo (routing .routing .given .0 .0) ++ inTwo (routing .routing .given .0 .1 .0)) (a .source .now) (a .destination .now) (omega arith)),
     )
 
@@ -72,10 +80,12 @@ put-variable-spec =
     (tie.spec
     enum-told
     enum-known-routing
-    cast-t13
-    cast-t15
-    cast-t17
-    cast-t19
+    two-digits-requires
+    two-digits-requires-2
+    array-read-t17
+    array-read-t20
+    array-read-t23
+    array-read-t26
     slice-aggregate-put
     put-requires
     put-end-requires

@@ -1,6 +1,7 @@
 -- `unwrapper::four_at` reads the four bytes from a place, which are there by its `requires`.
-use Rattle.envelope.specs.Numbers.{fourAt}
+use mathlib.Core.Path.{sym, _∙_}
 use borrow.Author.Needs.{needs}
+use Rattle.envelope.proofs.RuleLaws.{fourAt-is}
 use Rattle.frame.proofs.unwrapper.four_at.Statement.{statement}
 use Rattle.frame.proofs.unwrapper.four_at.Tie as tie
 
@@ -29,8 +30,7 @@ four-bytes-requires : tie.Need-four-bytes-requires
 four-bytes-requires c κs = search needs
 
 returns : tie.Need-returns
-unfolding fourAt
-returns c = search needs
+returns c = c .four-bytes .ensures ∙ sym (fourAt-is _ _)
 
 pub four-at-spec : {M : Type 1} → statement M
 four-at-spec =

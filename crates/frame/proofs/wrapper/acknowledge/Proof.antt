@@ -1,5 +1,5 @@
 -- `wrapper::acknowledge`: want of room, or the frame.
-use Rattle.envelope.specs.Message.{inFour}
+use Rattle.envelope.specs.Numbers.{inFour}
 use Rattle.frame.proofs.WrapLaws.{no-room, room-enough, answers-refused, answers-written}
 use Rattle.frame.specs.Wrapping.{acknowledging}
 use Rattle.frame.specs.Wrapping.{putDown}

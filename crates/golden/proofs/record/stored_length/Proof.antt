@@ -1,6 +1,7 @@
 -- `record::stored_length` reads the first two bytes.
+use mathlib.Core.Path.{sym, _∙_}
 use borrow.Author.Needs.{needs}
-use Rattle.envelope.specs.Numbers.{twoAt}
+use Rattle.envelope.proofs.RuleLaws.{twoAt-is}
 use Rattle.golden.specs.Record.{storedWord, storedLength}
 use Rattle.golden.proofs.record.stored_length.Statement.{statement}
 use Rattle.golden.proofs.record.stored_length.Tie as tie
@@ -18,8 +19,8 @@ cast-result : tie.Need-cast-result
 cast-result c = search needs
 
 returns : tie.Need-returns
-unfolding storedLength storedWord twoAt
-returns c = search needs
+unfolding storedLength storedWord
+returns c = c .two-bytes .ensures ∙ sym (twoAt-is _ 0)
 
 pub stored-length-spec : {M : Type 1} → statement M
 stored-length-spec =
