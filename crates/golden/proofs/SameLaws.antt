@@ -10,7 +10,7 @@ use borrow.Author.Tests.{eqb-true, ne-eqb, not-false, leb-false, lt-ltb, le-ltb}
 use lib.Dec.{eqb, leb}
 use lib.ListN.{length, getD}
 use lib.Seq.{ext-getD}
-use Rattle.envelope.proofs.BoolLaws.{neither}
+use Rattle.envelope.proofs.BoolLaws.{neither, past}
 use Rattle.envelope.specs.Fields.{Answer, accepted}
 use Rattle.envelope.specs.Fields as envelope
 use Rattle.envelope.specs.Reading.{reading}
@@ -18,33 +18,12 @@ use Rattle.golden.specs.Checking.{unlessBad, checkFrom, checking}
 use Rattle.golden.specs.Checking as check
 use Rattle.golden.specs.Comparing.{differsAt, longer, differing, properBeginning, Outcome, positions, declined, comparingMessages, withRadio, withRecord, comparing, same, different, answerOf}
 use Rattle.golden.specs.File.{badFile, countOf, notThere, recordAt, judgedAt}
-use Rattle.golden.specs.Positions.{select}
 use Rattle.golden.specs.Record.{Judged, good, bad, messageOf}
 use Rattle.golden.specs.Refusal.{Refused, plainly}
 use Rattle.golden.specs.Theorems.{GoodAt, FirstBad, not-a-file, bad-record, CheckNamesTheFirst, SameIsEqual}
+use Rattle.golden.proofs.SelectLaws.{none-selected}
 
 -- ---- same
-
-nothing-there : (x : ℕ) (xs : List ℕ) → x ∷ xs ≡ [] → {A : Type 0} → A
-nothing-there x xs e = absurd (let z : suc (length xs) ≡ 0 = ap length e in omega arith)
-
-passed-over : (b : Bool) (k : ℕ) (rest : List ℕ) → cond b (k ∷ rest) rest ≡ [] → (b ≡ false) × (rest ≡ [])
-passed-over true k rest e = nothing-there k rest e
-passed-over false k rest e = (refl, e)
-
-here-or-later : (p : ℕ → Bool) (k i : ℕ) → p k ≡ false → k ≤ i → (k + 1 ≤ i → p i ≡ false) → p i ≡ false
-here-or-later p k i here a later = by (decLt k i)
-  where
-    by : Dec (k < i) → p i ≡ false
-    by (yes l) = later (omega arith)
-    by (no l) = let q : i ≡ k = omega arith in ap p q ∙ here
-
-none-selected : (p : ℕ → Bool) (k left i : ℕ) → select p k left ≡ [] → k ≤ i → i < k + left → p i ≡ false
-unfolding select
-none-selected p k zero i e a b = absurd (omega arith)
-none-selected p k (suc left) i e a b =
-    let o = passed-over (p k) k (select p (k + 1) left) e in
-    here-or-later p k i (o .0) a (λ h. none-selected p (k + 1) left i (o .1) h (omega arith))
 
 module _ (g r : List ℕ) (e : differing g r ≡ []) where
   no-difference : (k : ℕ) → k < longer g r → differsAt g r k ≡ false
@@ -77,30 +56,29 @@ no-position (positions (k ∷ ks)) e =
     absurd (let z : _≡_ {A = ℕ} 0 1 = cc in omega arith)
 no-position (declined x) e = absurd (let z : _≡_ {A = ℕ} 0 1 = cc in omega arith)
 
-past : (b : Bool) (x : Refused) (o : Outcome) → cond b (declined x) o ≡ positions [] → o ≡ positions []
-past true x o e = absurd (let z : _≡_ {A = ℕ} 0 1 = cc in omega arith)
-past false x o e = e
+declined-has-none : {x : Refused} {ks : List ℕ} → declined x ≡ positions ks → ⊥
+declined-has-none e = let z : _≡_ {A = ℕ} 0 1 = cc in omega arith
 
 of-messages : (g r : List ℕ) → comparingMessages g r ≡ positions [] → g ≡ r
 unfolding comparingMessages
 of-messages g r e =
-    let p : positions (differing g r) ≡ positions [] = past (properBeginning g r) (plainly 32) (positions (differing g r)) e in
+    let p = past (properBeginning g r) declined-has-none e .1 in
     let d : differing g r ≡ [] = cc in
     equal-messages g r d
 
 of-radio : (g r : List ℕ) (a : Answer) → withRadio g r a ≡ positions [] → g ≡ r
-of-radio g r (envelope.refused x) e = absurd (let z : _≡_ {A = ℕ} 0 1 = cc in omega arith)
+of-radio g r (envelope.refused x) e = absurd (declined-has-none e)
 of-radio g r (accepted f) e = of-messages g r e
 
 of-record : (g r : List ℕ) (j : Judged) → withRecord g r j ≡ positions [] → g ≡ r
-of-record g r (bad x) e = absurd (let z : _≡_ {A = ℕ} 0 1 = cc in omega arith)
+of-record g r (bad x) e = absurd (declined-has-none e)
 of-record g r (good f) e = of-radio g r (reading r) e
 
 pub same-is-equal : SameIsEqual
 unfolding comparing
 same-is-equal f n radio e =
     of-record (messageOf (recordAt f n)) radio (judgedAt f n)
-    (past (notThere f n) (plainly 22) _ (past (badFile f) (plainly 21) _ (no-position (comparing f n radio) e)))
+    (past (notThere f n) declined-has-none (past (badFile f) declined-has-none (no-position (comparing f n radio) e) .1) .1)
 
 -- ---- the first bad record
 

@@ -1,0 +1,122 @@
+-- A file and its records: what a whole file is, where its records and their bytes stand, and what a record's judgement says of them.
+-- Whoever builds on golden files cites these and opens neither `badFile` nor `judgedAt`.
+use mathlib.Core.Bool.{Bool, true, false, cond, not}
+use mathlib.Core.List.{List}
+use mathlib.Core.Path.{_≡_, ap, ap₂, sym, _∙_}
+use Prim.Native.Nat.{ℕ, _+_, _*_, _/_, _%_, _≤_, _<_}
+use native.Mathlib.Omega.{arith}
+use borrow.Author.Tests.{eqb-true, eq-eqb, ltb-false, le-ltb, not-false}
+use lib.Dec.{eqb, ltb}
+use lib.ListN.{length, drop}
+use lib.Seq.{ext-getD, getD-take, getD-drop}
+use Rattle.envelope.proofs.BoolLaws.{neither}
+use Rattle.envelope.specs.Fields.{Fields, Answer, accepted}
+use Rattle.envelope.specs.Fields as envelope
+use Rattle.envelope.specs.Numbers.{byteAt, twoBytes, twoAt}
+use Rattle.envelope.specs.Reading.{reading}
+use Rattle.golden.specs.File.{mostRecords, largestFile, badFile, countOf, recordAt, judgedAt}
+use Rattle.golden.specs.Record.{recordSize, headSize, longestMessage, storedWord, storedLength, messageOf, badLength, notClear, Judged, good, bad, byReading, judging}
+use Rattle.golden.specs.Refusal.{Refused, plainly}
+use Rattle.golden.proofs.RecordLaws.{Good, good-record, record-good, record-long}
+
+-- ---- whole files
+
+pub record Whole (f : List ℕ) : Type 0 where
+  pub full : length f ≡ countOf f * recordSize
+  pub few : countOf f ≤ mostRecords
+
+pub whole-file : (f : List ℕ) → badFile f ≡ false → Whole f
+unfolding badFile
+whole-file f e =
+    let p = neither (not (eqb (length f % recordSize) 0)) (ltb largestFile (length f)) e in
+    let even = eqb-true (length f % recordSize) 0 (not-false _ (p .0)) in
+    let most = ltb-false largestFile (length f) (p .1) in
+    record { full = omega (arith, even); few = omega (arith, most) }
+
+pub file-whole : (f : List ℕ) → Whole f → badFile f ≡ false
+unfolding badFile
+file-whole f w =
+    let even : length f % recordSize ≡ 0 = omega (arith, w .full) in
+    rw (eq-eqb (length f % recordSize) 0 even, le-ltb largestFile (length f) (omega (arith, w .full, w .few)))
+
+-- ---- where records and their bytes stand
+
+-- a record ends inside the file
+pub record-ends : (f : List ℕ) (n : ℕ) → n < countOf f → n * recordSize + recordSize ≤ length f
+record-ends f n l = omega arith
+
+-- and every byte of a whole file is a record's
+pub in-a-record : (f : List ℕ) (i : ℕ) → Whole f → i < length f → i / recordSize < countOf f
+in-a-record f i w l = omega (arith, w .full)
+
+pub record-byte : (f : List ℕ) (n i : ℕ) → i < recordSize → byteAt (recordAt f n) i ≡ byteAt f (n * recordSize + i)
+record-byte f n i h = getD-take recordSize (drop (n * recordSize) f) i 0 h ∙ getD-drop (n * recordSize) f i 0
+
+pub message-byte : (f : List ℕ) (n i : ℕ) → storedLength (recordAt f n) ≤ longestMessage → i < storedLength (recordAt f n)
+    → byteAt (messageOf (recordAt f n)) i ≡ byteAt f (n * recordSize + (headSize + i))
+message-byte f n i short h =
+    getD-take (storedLength (recordAt f n)) (drop headSize (recordAt f n)) i 0 h
+    ∙ getD-drop headSize (recordAt f n) i 0
+    ∙ record-byte f n (headSize + i) (omega arith)
+
+-- ---- the same records, of one file or of two
+
+pub same-records : (f g : List ℕ) (n m : ℕ) → n < countOf f → m < countOf g
+    → ((i : ℕ) → i < recordSize → byteAt f (n * recordSize + i) ≡ byteAt g (m * recordSize + i)) → recordAt f n ≡ recordAt g m
+same-records f g n m ln lm same =
+    let a = record-long f n ln in
+    ext-getD 0 (recordAt f n) (recordAt g m) (a ∙ sym (record-long g m lm)) (λ i l. byte i (omega (arith, a)))
+  where
+    byte : (i : ℕ) → i < recordSize → byteAt (recordAt f n) i ≡ byteAt (recordAt g m) i
+    byte i l = record-byte f n i l ∙ same i l ∙ sym (record-byte g m i l)
+
+pub same-judged : (f g : List ℕ) (n m : ℕ) → recordAt f n ≡ recordAt g m → judgedAt f n ≡ judgedAt g m
+unfolding judgedAt
+same-judged f g n m e = ap judging e
+
+-- files of the same records are the same
+pub same-files : (f g : List ℕ) → Whole f → length f ≡ length g → ((n : ℕ) → n < countOf f → recordAt f n ≡ recordAt g n) → f ≡ g
+same-files f g w e same = ext-getD 0 f g e byte
+  where
+    byte : (i : ℕ) → i < length f → byteAt f i ≡ byteAt g i
+    byte i l =
+        let n = i / recordSize in
+        let k = i % recordSize in
+        let at : n * recordSize + k ≡ i = omega arith in
+        rw at at
+        (sym (record-byte f n k (omega arith)) ∙ ap (λ (r : List ℕ). byteAt r k) (same n (in-a-record f i w l)) ∙ record-byte g n k (omega arith))
+
+-- the first two bytes alone decide the stored length
+pub same-stored : (r s : List ℕ) → byteAt r 0 ≡ byteAt s 0 → byteAt r 1 ≡ byteAt s 1 → storedLength r ≡ storedLength s
+unfolding storedLength storedWord twoAt
+same-stored r s a b = ap₂ twoBytes a b
+
+-- ---- what a judgement says
+
+pub good-at : (f : List ℕ) (n : ℕ) (fields : Fields) → judgedAt f n ≡ good fields → Good (recordAt f n) fields
+unfolding judgedAt
+good-at f n fields e = good-record (recordAt f n) fields e
+
+pub judged-at : (f : List ℕ) (n : ℕ) (fields : Fields) → Good (recordAt f n) fields → judgedAt f n ≡ good fields
+unfolding judgedAt
+judged-at f n fields g = record-good (recordAt f n) fields g
+
+-- a record's own fault is 23, 24 or 25
+faultOf : Judged → ℕ
+faultOf (good f) = 23
+faultOf (bad r) = r .number
+
+own-fault : (a b : Bool) (x : Answer) → let n = faultOf (cond a (bad (plainly 23)) (cond b (bad (plainly 24)) (byReading x))) in (23 ≤ n) × (n ≤ 25)
+unfolding faultOf
+own-fault true b x = (omega arith, omega arith)
+own-fault false true x = (omega arith, omega arith)
+own-fault false false (accepted f) = (omega arith, omega arith)
+own-fault false false (envelope.refused r) = (omega arith, omega arith)
+
+pub fault-number : (f : List ℕ) (n : ℕ) (r : Refused) → judgedAt f n ≡ bad r → (23 ≤ r .number) × (r .number ≤ 25)
+unfolding judgedAt judging faultOf
+fault-number f n r e =
+    let s = recordAt f n in
+    let w = own-fault (badLength (storedLength s)) (notClear s) (reading (messageOf s)) in
+    let same : faultOf (judgedAt f n) ≡ r .number = ap faultOf e in
+    (omega (arith, w .0, same), omega (arith, w .1, same))
