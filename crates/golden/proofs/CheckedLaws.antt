@@ -1,63 +1,67 @@
--- Check passes exactly the files whose records are all good; in such a file find answers the first record of the name or 27.
+-- Check passes exactly the files whose records are all good, and names the first bad record of any other; where it passes, find answers the first of the name or 27.
 -- Inductions on the records that are left.
-use mathlib.Core.Bool.{false}
+use mathlib.Core.Bool.{Bool, true, false, cond}
 use mathlib.Core.List.{List}
 use mathlib.Core.Path.{_≡_, refl, ap, sym, _∙_}
 use Prim.Native.Nat.{ℕ, zero, suc, _+_, _-_, _≤_, _<_}
-use native.Mathlib.Decide.{decLt}
 use native.Mathlib.Omega.{arith}
-use Rattle.envelope.proofs.BoolLaws.{past, true-is-not-false}
-use Rattle.envelope.specs.Fields.{Fields}
+use Rattle.envelope.proofs.BoolLaws.{true-is-not-false}
 use Rattle.golden.specs.Checking.{CheckAnswer, counted, unlessBad, checkFrom, checking}
 use Rattle.golden.specs.Checking as check
 use Rattle.golden.specs.File.{badFile, countOf, judgedAt}
 use Rattle.golden.specs.Finding.{FindAnswer, finding}
 use Rattle.golden.specs.Record.{Judged, good, bad}
-use Rattle.golden.specs.Refusal.{Refused}
-use Rattle.golden.specs.Theorems.{GoodAt, CheckedAreGood, GoodAreChecked, not-a-file, bad-record, FirstBadIsNamed, FirstNamed, first, none, FindsTheFirst, FindReason, no-file, first-bad, first-named, none-named}
+use Rattle.golden.specs.Refusal.{Refused, plainly}
+use Rattle.golden.specs.Theorems.{GoodAt, AllGood, CheckedAreGood, GoodAreChecked, FirstBad, not-a-file, bad-record, CheckNamesTheFirst, FirstBadIsNamed, FirstNamed, first, none, FindsTheFirst, FindReason, no-file, first-bad, first-named, none-named}
+use Rattle.golden.proofs.FileLaws.{one-more}
 use Rattle.golden.proofs.FoundLaws.{find-gives-its-reason}
 use Rattle.golden.proofs.RecordLaws.{bad-is-not-good}
 
 -- ---- check
 
-refused-is-not-counted : {k n : ℕ} {r : Refused} → check.refused k r ≡ counted n → ⊥
-refused-is-not-counted e = let z : _≡_ {A = ℕ} 0 1 = cc in omega arith
+-- why check answers as it does
+data Verdict (f : List ℕ) : CheckAnswer → Type 0 where
+  passes : AllGood f (countOf f) → Verdict f (counted (countOf f))
+  refuses : (n : ℕ) (r : Refused) → FirstBad f n r → Verdict f (check.refused n r)
 
--- record k decides, and the others go on
-record GoesOn (j : Judged) (others : CheckAnswer) (n : ℕ) : Type 0 where
-  fields : Fields
-  judged : j ≡ good fields
-  rest : others ≡ counted n
+module _ (f : List ℕ) (h : badFile f ≡ false) where
+  verdict-here : (k : ℕ) → k < countOf f → ((i : ℕ) → i < k → GoodAt f i) → (j : Judged) → judgedAt f k ≡ j → (others : CheckAnswer)
+      → (((i : ℕ) → i < k + 1 → GoodAt f i) → Verdict f others) → Verdict f (unlessBad k j others)
+  verdict-here k l before (bad r) e others later = refuses k r (bad-record k r h l e before)
+  verdict-here k l before (good fields) e others later = later (one-more (GoodAt f) k before (record { fields = fields; judged = e }))
 
-goes-on : (k : ℕ) (j : Judged) (others : CheckAnswer) (n : ℕ) → unlessBad k j others ≡ counted n → GoesOn j others n
-goes-on k (good f) others n e = record { fields = f; judged = refl; rest = e }
-goes-on k (bad r) others n e = absurd (refused-is-not-counted e)
+  verdict-from : (left k : ℕ) → k + left ≡ countOf f → ((i : ℕ) → i < k → GoodAt f i) → Verdict f (checkFrom f k left)
+  unfolding checkFrom
+  verdict-from zero k e before =
+      let q : k ≡ countOf f = omega arith in
+      rw q (passes (record { whole = h; count = refl; records = rw q at before }))
+  verdict-from (suc left) k e before =
+      verdict-here k (omega arith) before (judgedAt f k) refl (checkFrom f (k + 1) left) (verdict-from left (k + 1) (omega arith))
 
-same-count : (m n : ℕ) → counted m ≡ counted n → n ≡ m
-same-count m n e = cc
-
-here-or-later : (f : List ℕ) (k left i : ℕ) → GoodAt f k → ((i : ℕ) → k + 1 ≤ i → i < k + 1 + left → GoodAt f i) → k ≤ i → i < k + suc left → GoodAt f i
-here-or-later f k left i this later a b = by (decLt k i)
+verdict : (f : List ℕ) → Verdict f (checking f)
+unfolding checking
+verdict f = by (badFile f) refl
   where
-    by : Dec (k < i) → GoodAt f i
-    by (yes l) = later i (omega arith) (omega arith)
-    by (no l) = let e : i ≡ k = omega arith in rw e this
-
-from-here : (f : List ℕ) (k left n : ℕ) → checkFrom f k left ≡ counted n → (n ≡ k + left) × ((i : ℕ) → k ≤ i → i < k + left → GoodAt f i)
-unfolding checkFrom
-from-here f k zero n e = let c = same-count k n e in (omega arith, λ i a b. absurd (omega arith))
-from-here f k (suc left) n e =
-    let g = goes-on k (judgedAt f k) (checkFrom f (k + 1) left) n e in
-    let r = from-here f (k + 1) left n (g .rest) in
-    let this : GoodAt f k = record { fields = g .fields; judged = g .judged } in
-    (omega (arith, r .0), λ i a b. here-or-later f k left i this (r .1) a b)
+    by : (b : Bool) → badFile f ≡ b → Verdict f (cond b (check.refused 0 (plainly 21)) (checkFrom f 0 (countOf f)))
+    by true e = refuses 0 (plainly 21) (not-a-file e)
+    by false e = verdict-from f e (countOf f) 0 (omega arith) (λ i l. absurd (omega arith))
 
 pub checked-are-good : CheckedAreGood
-unfolding checking
-checked-are-good f n e =
-    let p = past (badFile f) refused-is-not-counted e in
-    let r = from-here f 0 (countOf f) n (p .1) in
-    record { whole = p .0; count = omega (arith, r .0); records = λ k l. r .1 k (omega arith) (omega (arith, r .0)) }
+checked-are-good f n e = by (checking f) (verdict f) e
+  where
+    by : (a : CheckAnswer) → Verdict f a → a ≡ counted n → AllGood f n
+    by _ (passes a) q = let c : n ≡ countOf f = cc in rw c a
+    by _ (refuses k r b) q = absurd (let z : _≡_ {A = ℕ} 0 1 = cc in omega arith)
+
+pub check-names-the-first : CheckNamesTheFirst
+check-names-the-first f n r e = by (checking f) (verdict f) e
+  where
+    by : (a : CheckAnswer) → Verdict f a → a ≡ check.refused n r → FirstBad f n r
+    by _ (passes a) q = absurd (let z : _≡_ {A = ℕ} 0 1 = cc in omega arith)
+    by _ (refuses k x b) q =
+        let en : k ≡ n = cc in
+        let er : x ≡ r = cc in
+        rw (← en, ← er) b
 
 -- and back: records that are good are passed over
 goes-over : (f : List ℕ) (k start left : ℕ) → ((i : ℕ) → start ≤ i → i < start + k → GoodAt f i)

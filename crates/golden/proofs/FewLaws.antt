@@ -24,11 +24,10 @@ use Rattle.golden.specs.Record.{headSize, longestMessage, storedLength, 
 use Rattle.golden.specs.Refusal.{Refused, plainly, passingOn}
 use Rattle.golden.specs.Stepping.{StepAnswer, stepOf, stepAt, nextAfter}
 use Rattle.golden.specs.Theorems.{FirstBad, not-a-file, bad-record, FindReason, no-file, first-bad, first-named, none-named, checkedNumber, CheckNamesFew, countedNumber, CountIsFew, openedNumber, foundNumber, FindOpensFew, reachedSize, StepReachesShort, StepGoesOnByOne, differenceTotal, CompareTotalsFew}
-use Rattle.golden.proofs.CheckedLaws.{checked-are-good}
+use Rattle.golden.proofs.CheckedLaws.{checked-are-good, check-names-the-first}
 use Rattle.golden.proofs.ComparingLaws.{longer-below}
 use Rattle.golden.proofs.FileLaws.{whole-file}
 use Rattle.golden.proofs.FoundLaws.{find-gives-its-reason}
-use Rattle.golden.proofs.SameLaws.{check-names-the-first}
 use Rattle.golden.proofs.SelectLaws.{select-few}
 use Rattle.golden.proofs.SteppingLaws.{Reason, at-21, at-end, at-record, reason, good-size}
 

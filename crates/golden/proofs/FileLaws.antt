@@ -4,6 +4,7 @@ use mathlib.Core.Bool.{Bool, true, false, cond, not}
 use mathlib.Core.List.{List}
 use mathlib.Core.Path.{_≡_, ap, ap₂, sym, _∙_}
 use Prim.Native.Nat.{ℕ, _+_, _*_, _/_, _%_, _≤_, _<_}
+use native.Mathlib.Decide.{decLt}
 use native.Mathlib.Omega.{arith}
 use borrow.Author.Tests.{eqb-true, eq-eqb, ltb-false, le-ltb, not-false}
 use lib.Dec.{eqb, ltb}
@@ -58,6 +59,14 @@ message-byte f n i short h =
     getD-take (storedLength (recordAt f n)) (drop headSize (recordAt f n)) i 0 h
     ∙ getD-drop headSize (recordAt f n) i 0
     ∙ record-byte f n (headSize + i) (omega arith)
+
+-- what holds of the records before k and of k holds before k + 1
+pub one-more : (P : ℕ → Type 0) (k : ℕ) → ((i : ℕ) → i < k → P i) → P k → (i : ℕ) → i < k + 1 → P i
+one-more P k before here i l = by (decLt i k)
+  where
+    by : Dec (i < k) → P i
+    by (yes b) = before i b
+    by (no b) = let e : i ≡ k = omega arith in rw e here
 
 -- ---- the same records, of one file or of two
 

@@ -4,7 +4,6 @@ use mathlib.Core.Bool.{Bool, true, false, cond}
 use mathlib.Core.List.{List}
 use mathlib.Core.Path.{_≡_, refl, ap, _∙_}
 use Prim.Native.Nat.{ℕ, zero, suc, _+_, _-_, _≤_, _<_}
-use native.Mathlib.Decide.{decLt}
 use native.Mathlib.Omega.{arith}
 use borrow.Author.Tests.{eqb-true, eq-eqb}
 use lib.Dec.{eqb}
@@ -15,7 +14,7 @@ use Rattle.golden.specs.Finding.{NameFields, hasName, nameOf, FindAnswer
 use Rattle.golden.specs.Record.{Judged, good, bad}
 use Rattle.golden.specs.Refusal.{Refused, plainly}
 use Rattle.golden.specs.Theorems.{NotNamed, FindReason, no-file, first-bad, first-named, none-named, FindGivesItsReason, ReasonSettlesFind}
-use Rattle.golden.proofs.FileLaws.{fault-number}
+use Rattle.golden.proofs.FileLaws.{one-more, fault-number}
 
 -- ---- names
 
@@ -37,13 +36,6 @@ module _ (f : List ℕ) (name : NameFields) where
   abbrev Before : ℕ → Type 0
   Before k = (i : ℕ) → i < k → NotNamed f name i
 
-  before-more : (k : ℕ) → Before k → NotNamed f name k → Before (k + 1)
-  before-more k before here i l = by (decLt i k)
-    where
-      by : Dec (i < k) → NotNamed f name i
-      by (yes b) = before i b
-      by (no b) = let e : i ≡ k = omega arith in rw e here
-
   module _ (h : badFile f ≡ false) where
     reason-here : (k : ℕ) → k < countOf f → Before k → (j : Judged) → judgedAt f k ≡ j → (others : FindAnswer)
         → (Before (k + 1) → FindReason f name others) → FindReason f name (decides name k j others)
@@ -52,7 +44,7 @@ module _ (f : List ℕ) (name : NameFields) where
       where
         by : (b : Bool) → hasName name fields ≡ b → FindReason f name (cond b (found k (k + 1)) others)
         by true q = first-named k fields h l e q before
-        by false q = later (before-more k before (record { fields = fields; judged = e; other = q }))
+        by false q = later (one-more (NotNamed f name) k before (record { fields = fields; judged = e; other = q }))
 
     reason-from : (left k : ℕ) → k + left ≡ countOf f → Before k → FindReason f name (findFrom f name k left)
     unfolding findFrom

@@ -3,12 +3,18 @@
 use mathlib.Core.Bool.{Bool, true, false, cond}
 use mathlib.Core.List.{List, [], _∷_, _++_}
 use mathlib.Core.Path.{_≡_, refl, ap, sym, _∙_}
-use Prim.Native.Nat.{ℕ, zero, suc, _+_, _≤_, _<_}
+use Prim.Native.Nat.{ℕ, zero, suc, _+_, _-_, _≤_, _<_}
 use native.Mathlib.Decide.{decLt}
 use native.Mathlib.Omega.{arith}
 use lib.ListN.{length, getD}
 use Rattle.envelope.proofs.BoolLaws.{true-is-not-false, is-false}
 use Rattle.golden.specs.Positions.{noted, select}
+
+-- one number on, as a loop to n meets it
+pub select-step : (p : ℕ → Bool) (k n : ℕ) → k < n
+    → select p k (n - k) ≡ cond (p k) (k ∷ select p (k + 1) (n - (k + 1))) (select p (k + 1) (n - (k + 1)))
+unfolding select
+select-step p k n h = let e : n - k ≡ suc (n - (k + 1)) = omega arith in rw e
 
 -- ---- what is selected
 
