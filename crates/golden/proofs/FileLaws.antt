@@ -16,9 +16,9 @@ use Rattle.envelope.specs.Fields as envelope
 use Rattle.envelope.specs.Numbers.{byteAt, twoBytes, twoAt}
 use Rattle.envelope.specs.Reading.{reading}
 use Rattle.golden.specs.File.{mostRecords, largestFile, badFile, countOf, recordAt, judgedAt}
-use Rattle.golden.specs.Record.{recordSize, headSize, longestMessage, storedWord, storedLength, messageOf, badLength, notClear, Judged, good, bad, byReading, judging}
-use Rattle.golden.specs.Refusal.{Refused, plainly}
-use Rattle.golden.proofs.RecordLaws.{Good, good-record, record-good, record-long}
+use Rattle.golden.specs.Record.{recordSize, headSize, longestMessage, storedWord, storedLength, messageOf, badLength, notClear, good, bad, byReading, judging}
+use Rattle.golden.specs.Refusal.{Refused, plainly, passingOn}
+use Rattle.golden.proofs.RecordLaws.{Good, bad-is-not-good, good-record, record-good, record-long}
 
 -- ---- whole files
 
@@ -53,12 +53,13 @@ in-a-record f i w l = omega (arith, w .full)
 pub record-byte : (f : List ℕ) (n i : ℕ) → i < recordSize → byteAt (recordAt f n) i ≡ byteAt f (n * recordSize + i)
 record-byte f n i h = getD-take recordSize (drop (n * recordSize) f) i 0 h ∙ getD-drop (n * recordSize) f i 0
 
+-- the message stands behind its stored length, in its record and in the file
+pub message-place : (r : List ℕ) (i : ℕ) → i < storedLength r → byteAt (messageOf r) i ≡ byteAt r (headSize + i)
+message-place r i h = getD-take (storedLength r) (drop headSize r) i 0 h ∙ getD-drop headSize r i 0
+
 pub message-byte : (f : List ℕ) (n i : ℕ) → storedLength (recordAt f n) ≤ longestMessage → i < storedLength (recordAt f n)
     → byteAt (messageOf (recordAt f n)) i ≡ byteAt f (n * recordSize + (headSize + i))
-message-byte f n i short h =
-    getD-take (storedLength (recordAt f n)) (drop headSize (recordAt f n)) i 0 h
-    ∙ getD-drop headSize (recordAt f n) i 0
-    ∙ record-byte f n (headSize + i) (omega arith)
+message-byte f n i short h = message-place (recordAt f n) i h ∙ record-byte f n (headSize + i) (omega arith)
 
 -- what holds of the records before k and of k holds before k + 1
 pub one-more : (P : ℕ → Type 0) (k : ℕ) → ((i : ℕ) → i < k → P i) → P k → (i : ℕ) → i < k + 1 → P i
@@ -111,21 +112,15 @@ unfolding judgedAt
 judged-at f n fields g = record-good (recordAt f n) fields g
 
 -- a record's own fault is 23, 24 or 25
-faultOf : Judged → ℕ
-faultOf (good f) = 23
-faultOf (bad r) = r .number
-
-own-fault : (a b : Bool) (x : Answer) → let n = faultOf (cond a (bad (plainly 23)) (cond b (bad (plainly 24)) (byReading x))) in (23 ≤ n) × (n ≤ 25)
-unfolding faultOf
-own-fault true b x = (omega arith, omega arith)
-own-fault false true x = (omega arith, omega arith)
-own-fault false false (accepted f) = (omega arith, omega arith)
-own-fault false false (envelope.refused r) = (omega arith, omega arith)
+own-fault : (a b : Bool) (x : Answer) (r : Refused) → cond a (bad (plainly 23)) (cond b (bad (plainly 24)) (byReading x)) ≡ bad r
+    → (23 ≤ r .number) × (r .number ≤ 25)
+own-fault true b x r e = let q : plainly 23 ≡ r = cc in rw (← q) (omega arith, omega arith)
+own-fault false true x r e = let q : plainly 24 ≡ r = cc in rw (← q) (omega arith, omega arith)
+own-fault false false (accepted f) r e = absurd (bad-is-not-good (sym e))
+own-fault false false (envelope.refused y) r e = let q : passingOn 25 (y .number) ≡ r = cc in rw (← q) (omega arith, omega arith)
 
 pub fault-number : (f : List ℕ) (n : ℕ) (r : Refused) → judgedAt f n ≡ bad r → (23 ≤ r .number) × (r .number ≤ 25)
-unfolding judgedAt judging faultOf
+unfolding judgedAt judging
 fault-number f n r e =
     let s = recordAt f n in
-    let w = own-fault (badLength (storedLength s)) (notClear s) (reading (messageOf s)) in
-    let same : faultOf (judgedAt f n) ≡ r .number = ap faultOf e in
-    (omega (arith, w .0, same), omega (arith, w .1, same))
+    own-fault (badLength (storedLength s)) (notClear s) (reading (messageOf s)) r e

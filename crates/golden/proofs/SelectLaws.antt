@@ -10,6 +10,10 @@ use lib.ListN.{length, getD}
 use Rattle.envelope.proofs.BoolLaws.{true-is-not-false, is-false}
 use Rattle.golden.specs.Positions.{noted, select}
 
+pub select-one : (p : ℕ → Bool) (k : ℕ) → select p k 1 ≡ cond (p k) (k ∷ []) []
+unfolding select
+select-one p k = refl
+
 -- one number on, as a loop to n meets it
 pub select-step : (p : ℕ → Bool) (k n : ℕ) → k < n
     → select p k (n - k) ≡ cond (p k) (k ∷ select p (k + 1) (n - (k + 1))) (select p (k + 1) (n - (k + 1)))
