@@ -2,7 +2,7 @@
 -- And what a name says of the fields that have it.
 use mathlib.Core.Bool.{Bool, true, false, cond}
 use mathlib.Core.List.{List}
-use mathlib.Core.Path.{_≡_, refl, ap, _∙_}
+use mathlib.Core.Path.{_≡_, refl, ap, sym, _∙_}
 use Prim.Native.Nat.{ℕ, zero, suc, _+_, _-_, _≤_, _<_}
 use native.Mathlib.Omega.{arith}
 use borrow.Author.Tests.{eqb-true, eq-eqb}
@@ -99,6 +99,13 @@ reason-settles-find f name _ (first-named k fields h l e q before) = find-decide
 reason-settles-find f name _ (none-named h others) = find-ends f name (countOf f) h others refl
 
 -- ---- the reason of one answer
+
+-- of a record that was passed over, the fields have another name
+pub other-name : (f : List ℕ) (name : NameFields) (k : ℕ) (fields : Fields) → NotNamed f name k → judgedAt f k ≡ good fields → hasName name fields ≡ false
+other-name f name k fields o j = ap (hasName name) (same-fields fields (o .fields) (sym j ∙ o .judged)) ∙ o .other
+  where
+    same-fields : (x y : Fields) → good x ≡ good y → x ≡ y
+    same-fields x y e = cc
 
 -- record k is the first of the name
 pub record First (f : List ℕ) (name : NameFields) (k : ℕ) : Type 0 where
