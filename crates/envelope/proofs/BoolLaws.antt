@@ -1,6 +1,6 @@
 -- Tests as facts: what a Bool that is put together says of its parts, and what an answer that may be missing says of its rule.
 -- Beside the library's `borrow.Author.Tests`.
-use mathlib.Core.Bool.{Bool, true, false, _&&_, _||_}
+use mathlib.Core.Bool.{Bool, true, false, cond, _&&_, _||_}
 use mathlib.Core.Logic.{_⊎_, inl, inr}
 use mathlib.Core.Option.{none, some}
 use mathlib.Core.Path.{_≡_, refl}
@@ -33,6 +33,11 @@ and-false false = refl
 pub is-false : (b : Bool) → (b ≡ true → ⊥) → b ≡ false
 is-false true f = absurd (f refl)
 is-false false f = refl
+
+-- a choice that is not its first answer: the test failed
+pub past : {A : Type 0} (b : Bool) {x rest z : A} → (x ≡ z → ⊥) → cond b x rest ≡ z → (b ≡ false) × (rest ≡ z)
+past true apart e = absurd (apart e)
+past false apart e = (refl, e)
 
 -- two tests of equality that say the same
 pub same-test : (a b c d : ℕ) → (a ≡ b → c ≡ d) → (c ≡ d → a ≡ b) → eqb a b ≡ eqb c d

@@ -1,6 +1,6 @@
 -- What a heading that passed says, and that heading and announced length look at the first 17 bytes alone.
 -- The layers above cite these laws and not the definitions.
-use mathlib.Core.Bool.{Bool, true, false, cond, not, _&&_}
+use mathlib.Core.Bool.{Bool, true, false, not, _&&_}
 use mathlib.Core.Path.{_≡_, refl}
 use mathlib.Core.List.{List}
 use Prim.Native.Nat.{ℕ, _≤_, _<_, _+_, _/_}
@@ -10,10 +10,10 @@ use lib.Dec.{leb, ltb, eqb}
 use lib.ListN.{take}
 use lib.Seq.{getD-take}
 use Rattle.envelope.specs.Flags.{kindOf, kindUnassigned, badFlags}
-use Rattle.envelope.specs.Heading.{flagsOf, variableSize, dataLength, announced, wrongVersion, badVariableSize, HeadingAnswer, passed, refused, heading}
+use Rattle.envelope.specs.Heading.{flagsOf, variableSize, dataLength, announced, wrongVersion, badVariableSize, passed, refused, heading}
 use Rattle.envelope.specs.Layout.{dataLengthPlace, variableSizePlace, headerSize, fieldSize, smallestVariable, largestVariable}
 use Rattle.envelope.specs.Numbers.{byteAt, threeAt}
-use Rattle.envelope.proofs.BoolLaws.{neither, true-is-not-false}
+use Rattle.envelope.proofs.BoolLaws.{neither, true-is-not-false, past}
 
 pub announced-is : (s : List ℕ) → announced s ≡ headerSize + variableSize s + dataLength s + fieldSize
 unfolding announced
@@ -26,16 +26,15 @@ pub record Passed (s : List ℕ) : Type 0 where
   pub flags : badFlags (flagsOf s) ≡ false
   pub size : badVariableSize (variableSize s) ≡ false
 
-past : (b : Bool) (n : ℕ) (rest : HeadingAnswer) → cond b (refused n) rest ≡ passed → (b ≡ false) × (rest ≡ passed)
-past true n rest e = (cc, cc)
-past false n rest e = (refl, e)
+refused-is-not-passed : {n : ℕ} → refused n ≡ passed → ⊥
+refused-is-not-passed e = let z : _≡_ {A = ℕ} 0 1 = cc in omega arith
 
 pub heading-passed : (s : List ℕ) → heading s ≡ passed → Passed s
 unfolding heading
 heading-passed s e =
-    let p2 = past (wrongVersion s) 2 _ e in
-    let p3 = past (badFlags (flagsOf s)) 3 _ (p2 .1) in
-    let p4 = past (badVariableSize (variableSize s)) 4 _ (p3 .1) in
+    let p2 = past (wrongVersion s) refused-is-not-passed e in
+    let p3 = past (badFlags (flagsOf s)) refused-is-not-passed (p2 .1) in
+    let p4 = past (badVariableSize (variableSize s)) refused-is-not-passed (p3 .1) in
     record { version = p2 .0; flags = p3 .0; size = p4 .0 }
 
 pub passed-heading : (s : List ℕ) → Passed s → heading s ≡ passed

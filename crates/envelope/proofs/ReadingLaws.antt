@@ -18,6 +18,7 @@ use Rattle.envelope.specs.IntegrityField.{badIntegrity}
 use Rattle.envelope.specs.Layout.{typePlace, numberPlace, leastSize, fieldSize, largestBody, largestMessage}
 use Rattle.envelope.specs.Numbers.{twoAt, threeAt, fourAt}
 use Rattle.envelope.specs.Reading.{tooShort, wrongLength, headerOf, integrityOf, fieldsOf, readingWhole, after, reading}
+use Rattle.envelope.proofs.BoolLaws.{past}
 use Rattle.envelope.proofs.HeadingLaws.{Passed, announced-is, heading-passed, passed-heading, kind-assigned, size-most}
 
 -- ---- accepted: no rule is broken, and the fields are the definition's
@@ -30,9 +31,8 @@ pub record Good (s : List ℕ) (f : Fields) : Type 0 where
   pub integrity : badIntegrity s (kindOf (flagsOf s)) (fieldPlace s) ≡ false
   pub fields : f ≡ fieldsOf s
 
-past : (b : Bool) (n : ℕ) (rest : Answer) (f : Fields) → cond b (refusal n) rest ≡ accepted f → (b ≡ false) × (rest ≡ accepted f)
-past true n rest f e = (cc, cc)
-past false n rest f e = (refl, e)
+refused-is-not-accepted : {n : ℕ} {f : Fields} → refusal n ≡ accepted f → ⊥
+refused-is-not-accepted e = let z : _≡_ {A = ℕ} 0 1 = cc in omega arith
 
 past-heading : (j : HeadingAnswer) (rest : Answer) (f : Fields) → after j rest ≡ accepted f → (j ≡ passed) × (rest ≡ accepted f)
 past-heading (refused n) rest f e = (cc, cc)
@@ -44,11 +44,11 @@ same-fields f g e = cc
 pub good : (s : List ℕ) (f : Fields) → reading s ≡ accepted f → Good s f
 unfolding reading readingWhole
 good s f e =
-    let p1 = past (tooShort s) 1 _ f e in
+    let p1 = past (tooShort s) refused-is-not-accepted e in
     let ph = past-heading (heading s) _ f (p1 .1) in
-    let p5 = past (wrongLength s) 5 _ f (ph .1) in
-    let p6 = past (badAddresses s (variableSize s)) 6 _ f (p5 .1) in
-    let p7 = past (badIntegrity s (kindOf (flagsOf s)) (fieldPlace s)) 7 _ f (p6 .1) in
+    let p5 = past (wrongLength s) refused-is-not-accepted (ph .1) in
+    let p6 = past (badAddresses s (variableSize s)) refused-is-not-accepted (p5 .1) in
+    let p7 = past (badIntegrity s (kindOf (flagsOf s)) (fieldPlace s)) refused-is-not-accepted (p6 .1) in
     record {
       long = ltb-false (length s) leastSize (p1 .0);
       heading = heading-passed s (ph .0);

@@ -32,11 +32,11 @@ use Rattle.envelope.proofs.WriteLaws.{FourKept}
 -- ---- stretches of a list
 
 -- n bytes from a place, one by one
-abbrev cells : ℕ → ℕ → List ℕ → List ℕ
+abbrev pub cells : ℕ → ℕ → List ℕ → List ℕ
 cells zero i s = []
 cells (suc n) i s = getD s i 0 ∷ cells n (suc i) s
 
-front : (n i : ℕ) (s : List ℕ) → i + n ≤ length s → drop i s ≡ cells n i s ++ drop (i + n) s
+pub front : (n i : ℕ) (s : List ℕ) → i + n ≤ length s → drop i s ≡ cells n i s ++ drop (i + n) s
 front zero i s h = rw add-zero
 front (suc n) i s h =
     let e : i + suc n ≡ suc i + n = omega arith in

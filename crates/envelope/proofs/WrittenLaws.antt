@@ -36,7 +36,7 @@ two-back n = omega arith
 three-back : (n : ℕ) → n / 65536 * 65536 + n / 256 % 256 * 256 + n % 256 ≡ n
 three-back n = omega arith
 
-four-back : (n : ℕ) → n / 16777216 * 16777216 + n / 65536 % 256 * 65536 + n / 256 % 256 * 256 + n % 256 ≡ n
+pub four-back : (n : ℕ) → n / 16777216 * 16777216 + n / 65536 % 256 * 65536 + n / 256 % 256 * 256 + n % 256 ≡ n
 four-back n = omega arith
 
 -- the field at the end of a message

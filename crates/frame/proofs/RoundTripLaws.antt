@@ -3,16 +3,16 @@
 use mathlib.Core.Bool.{Bool, true, false, cond, not, _&&_}
 use mathlib.Core.List.{List, [], _∷_, _++_}
 use mathlib.Core.Path.{_≡_, refl, ap, ap₂, sym, _∙_}
-use Prim.Native.Nat.{ℕ, zero, suc, _+_, _-_, _*_, _/_, _%_, _≤_}
-use native.Mathlib.Nat.{add-zero}
+use Prim.Native.Nat.{ℕ, suc, _+_, _-_}
 use native.Mathlib.Omega.{arith}
 use borrow.Author.Tests.{eqb-true, eq-eqb, not-false}
 use lib.Dec.{eqb, ltb}
-use lib.ListN.{length, take, drop, getD, length-drop, take-append-drop, drop-of-length-le}
+use lib.ListN.{length, take, drop, length-drop, take-append-drop, drop-of-length-le}
 use lib.Seq.{length-take-le, take-append-seam, drop-cons, drop-drop, getD-append-add, getD-append-seam}
 use Rattle.envelope.proofs.DemandLaws.{bytes-take, bytes-drop}
-use Rattle.envelope.proofs.RebuiltLaws.{four-of}
+use Rattle.envelope.proofs.RebuiltLaws.{cells, front as cut, four-of}
 use Rattle.envelope.proofs.RuleLaws.{fourAt-is}
+use Rattle.envelope.proofs.WrittenLaws.{four-back}
 use Rattle.envelope.specs.Fields.{Span, Fields, Answer, accepted, refused, partOf}
 use Rattle.envelope.specs.Numbers.{byteAt, inFour}
 use Rattle.envelope.specs.Promise.{Bytes}
@@ -33,9 +33,6 @@ use Rattle.frame.proofs.UnwrapLaws.{length-whole, acknowledgment-whole,
 use Rattle.frame.proofs.PutLaws.{frame-length}
 
 -- ---- a frame that was put together
-
-four-back : (n : ℕ) → n / 16777216 * 16777216 + n / 65536 % 256 * 65536 + n / 256 % 256 * 256 + n % 256 ≡ n
-four-back n = omega arith
 
 module _ (t commid : ℕ) (body : List ℕ) where
   type-back : typeOf (frame t commid body) ≡ t
@@ -180,17 +177,6 @@ acknowledged-buffer-then-unwrapped commid acknowledged entry exit r n u w e h =
     h ∙ ap unwrapping (f .front) ∙ acknowledged-then-unwrapped commid acknowledged (length entry) (f .bytes) (f .outcome)
 
 -- ---- whole bytes are the frame of their own fields
-
--- n bytes from a place, one by one
-abbrev cells : ℕ → ℕ → List ℕ → List ℕ
-cells zero i s = []
-cells (suc n) i s = getD s i 0 ∷ cells n (suc i) s
-
-cut : (n i : ℕ) (s : List ℕ) → i + n ≤ length s → drop i s ≡ cells n i s ++ drop (i + n) s
-cut zero i s h = rw add-zero
-cut (suc n) i s h =
-    let e : i + suc n ≡ suc i + n = omega arith in
-    rw (drop-cons s i 0 (omega arith), e) (ap (λ (l : List ℕ). getD s i 0 ∷ l) (cut n (suc i) s (omega arith)))
 
 module _ (s : List ℕ) (bytes : Bytes s) (w : Whole s) where
   size : leastSize + dataLength s ≡ length s

@@ -9,35 +9,25 @@ use native.Mathlib.Nat.{add-zero}
 use native.Mathlib.Omega.{arith}
 use lib.Bits.{bitXor}
 use lib.ListN.{length, drop, List·getD-eq-default}
-use lib.Seq.{ext-getD, getD-take, getD-drop}
+use lib.Seq.{ext-getD}
 use Rattle.envelope.proofs.DemandLaws.{bytes-take, bytes-drop}
 use Rattle.envelope.proofs.ReadingLaws.{accepted-least}
-use Rattle.envelope.proofs.RuleLaws.{twoAt-is}
 use Rattle.envelope.proofs.TwoBitsLaws.{two-bits-anywhere, three-bits-anywhere}
 use Rattle.envelope.proofs.WindowLaws.{any-window, middle-window}
 use Rattle.envelope.specs.AnyWindow.{TwoAndTwoAt, OneDifference}
 use Rattle.envelope.specs.Demand3.{Window, before, field, SameOutside}
 use Rattle.envelope.specs.Layout.{leastSize}
-use Rattle.envelope.specs.Numbers.{byteAt, twoBytes}
+use Rattle.envelope.specs.Numbers.{byteAt}
 use Rattle.envelope.specs.Promise.{Bytes}
 use Rattle.golden.specs.Checking.{counted, checking}
-use Rattle.golden.specs.File.{countOf, recordAt, judgedAt}
-use Rattle.golden.specs.Record.{recordSize, headSize, messageRoom, storedWord, storedLength, messageOf}
+use Rattle.golden.specs.File.{countOf, recordAt}
+use Rattle.golden.specs.Record.{recordSize, headSize, messageRoom, storedLength, messageOf}
 use Rattle.golden.specs.Theorems.{GoodAt, GoldenDemand3, SameButMessage, GoldenTwoBits, GoldenThreeBitsAnywhere, GoldenAnyWindow, GoldenMiddleWindow}
 use Rattle.golden.proofs.CheckedLaws.{checked-are-good}
-use Rattle.golden.proofs.RecordLaws.{length-most, Good, good-record, behind-message, message-long}
+use Rattle.golden.proofs.FileLaws.{record-byte, message-byte, same-stored, good-at}
+use Rattle.golden.proofs.RecordLaws.{Good, message-long}
 
 -- ---- where a record's bytes stand in the file
-
-record-byte : (f : List ℕ) (r i : ℕ) → i < recordSize → byteAt (recordAt f r) i ≡ byteAt f (r * recordSize + i)
-record-byte f r i h = getD-take recordSize (drop (r * recordSize) f) i 0 h ∙ getD-drop (r * recordSize) f i 0
-
-message-byte : (f : List ℕ) (r i : ℕ) → storedLength (recordAt f r) ≤ messageRoom → i < storedLength (recordAt f r)
-    → byteAt (messageOf (recordAt f r)) i ≡ byteAt f (r * recordSize + (headSize + i))
-message-byte f r i short h =
-    getD-take (storedLength (recordAt f r)) (drop headSize (recordAt f r)) i 0 h
-    ∙ getD-drop headSize (recordAt f r) i 0
-    ∙ record-byte f r (headSize + i) (omega arith)
 
 message-bytes : (f : List ℕ) (r : ℕ) → Bytes f → Bytes (messageOf (recordAt f r))
 message-bytes f r b =
@@ -45,17 +35,16 @@ message-bytes f r b =
     (bytes-drop headSize (recordAt f r) (bytes-take recordSize (drop (r * recordSize) f) (bytes-drop (r * recordSize) f b)))
 
 as-judged : (f : List ℕ) (r : ℕ) (g : GoodAt f r) → Good (recordAt f r) (g .fields)
-unfolding judgedAt
-as-judged f r g = good-record (recordAt f r) (g .fields) (g .judged)
+as-judged f r g = good-at f r (g .fields) (g .judged)
 
 stored-most : (f : List ℕ) (r : ℕ) → GoodAt f r → storedLength (recordAt f r) ≤ messageRoom
-stored-most f r g = length-most (storedLength (recordAt f r)) (as-judged f r g .size)
+stored-most f r g = as-judged f r g .most
 
 -- behind the message stand zeros
 zero-behind : (f : List ℕ) (r i : ℕ) → GoodAt f r → storedLength (recordAt f r) ≤ i → i < messageRoom
     → byteAt f (r * recordSize + (headSize + i)) ≡ 0
 zero-behind f r i g h l =
-    sym (record-byte f r (headSize + i) (omega arith)) ∙ behind-message (recordAt f r) (g .fields) (as-judged f r g) (headSize + i) (omega arith)
+    sym (record-byte f r (headSize + i) (omega arith)) ∙ as-judged f r g .clear (headSize + i) (omega arith)
 
 -- ---- two files that are the same but from place lo to hi, in the message of record r
 
@@ -74,24 +63,20 @@ module _ (f g : List ℕ) (r lo hi : ℕ) (lf : r < countOf f) (lg : r < countOf
   same-head : (i : ℕ) → i < headSize → byteAt (recordAt f r) i ≡ byteAt (recordAt g r) i
   same-head i h = record-byte f r i (omega arith) ∙ same .0 (r * recordSize + i) (omega arith) ∙ sym (record-byte g r i (omega arith))
 
-  same-stored : storedLength (recordAt f r) ≡ storedLength (recordAt g r)
-  unfolding storedLength storedWord
-  same-stored =
-      twoAt-is (recordAt f r) 0
-      ∙ ap₂ twoBytes (same-head 0 (omega arith)) (same-head 1 (omega arith))
-      ∙ sym (twoAt-is (recordAt g r) 0)
+  same-sizes : storedLength (recordAt f r) ≡ storedLength (recordAt g r)
+  same-sizes = same-stored (recordAt f r) (recordAt g r) (same-head 0 (omega arith)) (same-head 1 (omega arith))
 
   long-s : length s ≡ storedLength (recordAt f r)
   long-s = message-long f r lf (stored-most f r gf)
 
   long-t : length t ≡ storedLength (recordAt f r)
-  long-t = message-long g r lg (stored-most g r gg) ∙ sym same-stored
+  long-t = message-long g r lg (stored-most g r gg) ∙ sym same-sizes
 
   byte-s : (i : ℕ) → i < length s → byteAt s i ≡ byteAt f (r * recordSize + (headSize + i))
   byte-s i h = message-byte f r i (stored-most f r gf) (omega (arith, long-s))
 
   byte-t : (i : ℕ) → i < length s → byteAt t i ≡ byteAt g (r * recordSize + (headSize + i))
-  byte-t i h = message-byte g r i (stored-most g r gg) (omega (arith, long-s, same-stored))
+  byte-t i h = message-byte g r i (stored-most g r gg) (omega (arith, long-s, same-sizes))
 
   -- the same file byte, or past both ends
   same-byte : (i : ℕ) → byteAt f (r * recordSize + (headSize + i)) ≡ byteAt g (r * recordSize + (headSize + i)) → byteAt s i ≡ byteAt t i
@@ -119,7 +104,7 @@ module _ (f g : List ℕ) (r lo hi : ℕ) (lf : r < countOf f) (lg : r < countOf
           same-place : (j : ℕ) → j < messageRoom → Dec (j < length s) → byteAt f (r * recordSize + (headSize + j)) ≡ byteAt g (r * recordSize + (headSize + j))
           same-place j l (yes k) = sym (byte-s j k) ∙ ap (λ (m : List ℕ). byteAt m j) e ∙ byte-t j k
           same-place j l (no k) =
-              zero-behind f r j gf (omega (arith, long-s)) l ∙ sym (zero-behind g r j gg (omega (arith, long-s, same-stored)) l)
+              zero-behind f r j gf (omega (arith, long-s)) l ∙ sym (zero-behind g r j gg (omega (arith, long-s, same-sizes)) l)
 
       by : Dec (i < lo) → Dec (i < hi) → byteAt f i ≡ byteAt g i
       by (yes a) b = same .0 i a

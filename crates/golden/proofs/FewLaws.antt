@@ -1,14 +1,12 @@
--- How large an answer can be: inductions on the records, or the positions, that are left.
+-- How large an answer can be, from what check and find say of the file and from how long messages are.
 -- Whoever hands answers out in fewer bits rests on these.
-use mathlib.Core.Bool.{Bool, true, false, cond, not}
-use mathlib.Core.List.{List, _∷_}
+use mathlib.Core.Bool.{Bool, true, false, cond}
+use mathlib.Core.List.{List}
 use mathlib.Core.Path.{_≡_, refl}
-use Prim.Native.Nat.{ℕ, zero, suc, _+_, _%_, _≤_}
+use Prim.Native.Nat.{ℕ, _+_, _≤_}
 use native.Mathlib.Omega.{arith}
-use borrow.Author.Tests.{ltb-false}
-use lib.Dec.{eqb, ltb}
+use lib.Dec.{eqb}
 use lib.ListN.{length, drop, length-take}
-use Rattle.envelope.proofs.BoolLaws.{neither}
 use Rattle.envelope.proofs.ReadingLaws.{accepted-most}
 use Rattle.envelope.specs.Fields.{Answer, accepted}
 use Rattle.envelope.specs.Fields as envelope
@@ -16,46 +14,35 @@ use Rattle.envelope.specs.Layout.{largestMessage}
 use Rattle.envelope.specs.Promise.{Bytes}
 use Rattle.envelope.specs.Reading.{reading}
 use Rattle.envelope.specs.Refusals.{Refused, plainly, passingOn}
-use Rattle.golden.specs.Checking.{CheckAnswer, unlessBad, checkFrom, checking}
+use Rattle.golden.specs.Checking.{CheckAnswer, checking}
 use Rattle.golden.specs.Checking as check
 use Rattle.golden.specs.Comparing.{differsAt, longer, differing, isProperBeginning, positions, refused, comparingMessages, withRadio, withRecord, comparing, same, different, compareAnswer}
-use Rattle.golden.specs.File.{mostRecords, largestFile, badFile, countOf, notThere, recordAt, judgedAt}
-use Rattle.golden.specs.Finding.{NameFields, hasName, FindAnswer, found, decides, findFrom, finding}
-use Rattle.golden.specs.Finding as find
+use Rattle.golden.specs.File.{mostRecords, badFile, countOf, notThere, recordAt, judgedAt}
+use Rattle.golden.specs.Finding.{FindAnswer, finding}
 use Rattle.golden.specs.Listing.{counting}
 use Rattle.golden.specs.Listing as listing
-use Rattle.golden.specs.Positions.{select}
-use Rattle.golden.specs.Record.{recordSize, headSize, messageRoom, storedLength, messageOf, Judged, good, bad}
+use Rattle.golden.specs.Record.{headSize, messageRoom, storedLength, messageOf, Judged, good, bad}
 use Rattle.golden.specs.Stepping.{StepAnswer, stepOf, stepAt, nextAfter}
-use Rattle.golden.specs.Theorems.{checkedNumber, CheckNamesFew, countedNumber, CountIsFew, openedNumber, foundNumber, FindOpensFew, reachedSize, StepReachesShort, StepGoesOnByOne, differenceTotal, CompareTotalsFew}
+use Rattle.golden.specs.Theorems.{FirstBad, not-a-file, bad-record, FindReason, no-file, first-bad, first-named, none-named, checkedNumber, CheckNamesFew, countedNumber, CountIsFew, openedNumber, foundNumber, FindOpensFew, reachedSize, StepReachesShort, StepGoesOnByOne, differenceTotal, CompareTotalsFew}
+use Rattle.golden.proofs.CheckedLaws.{checked-are-good, check-names-the-first}
 use Rattle.golden.proofs.ComparingLaws.{longer-below}
+use Rattle.golden.proofs.FileLaws.{whole-file}
+use Rattle.golden.proofs.FoundLaws.{find-gives-its-reason}
+use Rattle.golden.proofs.SelectLaws.{select-few}
 use Rattle.golden.proofs.SteppingLaws.{Reason, at-21, at-end, at-record, reason, good-size}
-
-few-records : (f : List ℕ) → badFile f ≡ false → countOf f ≤ mostRecords
-unfolding badFile
-few-records f e =
-    let h = ltb-false largestFile (length f) (neither (not (eqb (length f % recordSize) 0)) (ltb largestFile (length f)) e .1) in
-    omega (arith, h)
 
 -- ---- check and count
 
-check-on : (n left : ℕ) (j : Judged) (others : CheckAnswer) → checkedNumber others ≤ n + 1 + left
-    → checkedNumber (unlessBad n j others) ≤ n + suc left
-check-on n left (bad r) others h = omega arith
-check-on n left (good x) others h = omega (arith, h)
-
-check-within : (f : List ℕ) (n left : ℕ) → checkedNumber (checkFrom f n left) ≤ n + left
-unfolding checkFrom
-check-within f n zero = omega arith
-check-within f n (suc left) = check-on n left (judgedAt f n) (checkFrom f (n + 1) left) (check-within f (n + 1) left)
-
 pub check-names-few : CheckNamesFew
-unfolding checking
-check-names-few f = go (badFile f) refl
+check-names-few f = by (checking f) refl
   where
-    go : (b : Bool) → badFile f ≡ b → checkedNumber (cond b (check.refused 0 (plainly 21)) (checkFrom f 0 (countOf f))) ≤ mostRecords
-    go true e = omega arith
-    go false e = omega (arith, few-records f e, check-within f 0 (countOf f))
+    at : (n : ℕ) (r : Refused) → FirstBad f n r → n ≤ mostRecords
+    at _ _ (not-a-file h) = omega arith
+    at n r (bad-record _ _ h l j before) = omega (arith, whole-file f h .few)
+
+    by : (a : CheckAnswer) → checking f ≡ a → checkedNumber a ≤ mostRecords
+    by (check.counted n) e = let a = checked-are-good f n e in omega (arith, a .count, whole-file f (a .whole) .few)
+    by (check.refused n r) e = at n r (check-names-the-first f n r e)
 
 pub count-is-few : CountIsFew
 unfolding counting
@@ -63,39 +50,18 @@ count-is-few f = go (badFile f) refl
   where
     go : (b : Bool) → badFile f ≡ b → countedNumber (cond b (listing.refused (plainly 21)) (listing.counted (countOf f))) ≤ mostRecords
     go true e = omega arith
-    go false e = few-records f e
+    go false e = whole-file f e .few
 
 -- ---- find
 
-record Within (a : FindAnswer) (most : ℕ) : Type 0 where
-  opened : openedNumber a ≤ most
-  number : foundNumber a ≤ most
-
-find-on : (name : NameFields) (n left : ℕ) (j : Judged) (others : FindAnswer) → Within others (n + 1 + left)
-    → Within (decides name n j others) (n + suc left)
-find-on name n left (bad r) others h = record { opened = omega arith; number = omega arith }
-find-on name n left (good x) others h = by (hasName name x)
-  where
-    by : (b : Bool) → Within (cond b (found n (n + 1)) others) (n + suc left)
-    by true = record { opened = omega arith; number = omega arith }
-    by false = record { opened = omega (arith, h .opened); number = omega (arith, h .number) }
-
-find-within : (f : List ℕ) (name : NameFields) (n left : ℕ) → Within (findFrom f name n left) (n + left)
-unfolding findFrom
-find-within f name n zero = record { opened = omega arith; number = omega arith }
-find-within f name n (suc left) = find-on name n left (judgedAt f n) (findFrom f name (n + 1) left) (find-within f name (n + 1) left)
-
 pub find-opens-few : FindOpensFew
-unfolding finding
-find-opens-few f name = go (badFile f) refl
+find-opens-few f name = by (finding f name) (find-gives-its-reason f name)
   where
-    go : (b : Bool) → badFile f ≡ b
-        → let a = cond b (find.refused (plainly 21) 0) (findFrom f name 0 (countOf f)) in
-        (openedNumber a ≤ mostRecords) × (foundNumber a ≤ mostRecords)
-    go true e = (omega arith, omega arith)
-    go false e =
-        let w = find-within f name 0 (countOf f) in
-        (omega (arith, few-records f e, w .opened), omega (arith, few-records f e, w .number))
+    by : (a : FindAnswer) → FindReason f name a → (openedNumber a ≤ mostRecords) × (foundNumber a ≤ mostRecords)
+    by _ (no-file h) = (omega arith, omega arith)
+    by _ (first-bad k r h l j before) = (omega (arith, whole-file f h .few), omega arith)
+    by _ (first-named k fields h l j n before) = (omega (arith, whole-file f h .few), omega (arith, whole-file f h .few))
+    by _ (none-named h others) = (whole-file f h .few, omega arith)
 
 -- ---- step
 
@@ -121,15 +87,6 @@ step-goes-on-by-one f n = go (badFile f) (notThere f n)
     go false false = (omega arith, omega arith)
 
 -- ---- compare
-
-select-few : (p : ℕ → Bool) (k n : ℕ) → length (select p k n) ≤ n
-unfolding select
-select-few p k zero = omega arith
-select-few p k (suc n) = go (p k) (select-few p (k + 1) n)
-  where
-    go : (b : Bool) → length (select p (k + 1) n) ≤ n → length (cond b (k ∷ select p (k + 1) n) (select p (k + 1) n)) ≤ suc n
-    go true h = omega (arith, h)
-    go false h = omega (arith, h)
 
 total-of : (ks : List ℕ) → differenceTotal (compareAnswer (positions ks)) ≤ length ks
 unfolding compareAnswer

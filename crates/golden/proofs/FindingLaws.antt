@@ -1,4 +1,4 @@
--- Check and find, one record on as their loops meet them, and the step of the walk: which case holds, from the tests of the code.
+-- Check and find, one record on as their loops meet them; and what opening a record says of its judgement.
 -- `n` is the record at hand, and `count - n` are left with it.
 use mathlib.Core.Bool.{Bool, true, false, cond}
 use mathlib.Core.List.{List}

@@ -9,7 +9,7 @@ use lib.ListN.{length}
 use Rattle.envelope.specs.Fields.{Answer, accepted}
 use Rattle.envelope.specs.Fields as envelope
 use Rattle.envelope.specs.Reading.{reading}
-use Rattle.envelope.specs.Refusals.{Refused, plainly, passingOn, among, Gives}
+use Rattle.envelope.specs.Refusals.{plainly, Gives}
 use Rattle.golden.specs.Checking as check
 use Rattle.golden.specs.Comparing as compare
 use Rattle.golden.specs.File.{badFile, countOf, notThere, recordAt, judgedAt}
@@ -17,27 +17,9 @@ use Rattle.golden.specs.Finding as find
 use Rattle.golden.specs.Gives.{CountGives, CheckGives, FindGives, StepGives, EntryGives, CompareGives, MakeGives}
 use Rattle.golden.specs.Listing as list
 use Rattle.golden.specs.Making as make
-use Rattle.golden.specs.Record.{recordSize, messageRoom, storedLength, messageOf, badLength, notClear, Judged, good, bad, byReading, judging}
+use Rattle.golden.specs.Record.{recordSize, messageRoom, messageOf, Judged, good, bad}
 use Rattle.golden.specs.Stepping as step
-
--- ---- a record: 23, 24 and 25, in whatever lists have them
-
-module _ (plain passing : List ℕ) (h23 : among plain 23 ≡ true) (h24 : among plain 24 ≡ true) (h25 : among passing 25 ≡ true) where
-  abbrev InJudged : Judged → Type 0
-  InJudged (good f) = Unit
-  InJudged (bad r) = Gives plain passing r
-
-  by-rules : (a b : Bool) (x : Answer) → InJudged (cond a (bad (plainly 23)) (cond b (bad (plainly 24)) (byReading x)))
-  by-rules true b x = h23
-  by-rules false true x = h24
-  by-rules false false (accepted f) = tt
-  by-rules false false (envelope.refused r) = h25
-
-  judged-gives : (f : List ℕ) (n : ℕ) → InJudged (judgedAt f n)
-  unfolding judgedAt judging
-  judged-gives f n =
-      let r = recordAt f n in
-      by-rules (badLength (storedLength r)) (notClear r) (reading (messageOf r))
+use Rattle.golden.proofs.FileLaws.{InJudged, judged-gives}
 
 -- ---- count
 

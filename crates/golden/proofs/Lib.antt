@@ -1,4 +1,6 @@
 pub mod RecordLaws
+pub mod FileLaws
+pub mod SelectLaws
 pub mod PositionLaws
 pub mod BeginningLaws
 pub mod OpeningLaws
@@ -9,6 +11,7 @@ pub mod FewLaws
 pub mod MakingLaws
 pub mod OnlyLaws
 pub mod WalkLaws
+pub mod FoundLaws
 pub mod CheckedLaws
 pub mod SameLaws
 pub mod GivesLaws

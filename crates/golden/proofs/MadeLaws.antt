@@ -16,17 +16,20 @@ use Rattle.envelope.specs.Fields.{Fields, Refusal, Answer, accepted}
 use Rattle.envelope.specs.Fields as envelope
 use Rattle.envelope.specs.Numbers.{inTwo}
 use Rattle.envelope.specs.Reading.{reading}
-use Rattle.envelope.specs.Refusals.{plainly, passingOn, numbersOf}
-use Rattle.golden.specs.Checking.{counted, checkFrom, checking}
+use Rattle.envelope.specs.Refusals.{plainly, passingOn}
+use Rattle.golden.specs.Checking.{counted, checking}
 use Rattle.golden.specs.Comparing.{differsAt, differing, isProperBeginning, positions, comparingMessages, comparing, same, compareAnswer}
 use Rattle.golden.specs.File.{badFile, countOf, recordAt, judgedAt}
-use Rattle.golden.specs.Finding.{found, findFrom, finding}
+use Rattle.golden.specs.Finding.{nameOf, found, finding}
 use Rattle.golden.specs.Making.{recordOf, MakeAnswer, made, refused, makingRead, making, afterMaking}
-use Rattle.golden.specs.Positions.{select}
 use Rattle.golden.specs.Record.{recordSize, headSize, messageRoom, storedWord, storedLength, messageOf, allZero, badLength, notClear, Judged, good, bad, byReading, judging}
-use Rattle.golden.specs.Theorems.{nameOf, MadeIsGood, NeverTooShort}
+use Rattle.golden.specs.Theorems.{first-named, MadeIsGood, NeverTooShort}
+use Rattle.golden.proofs.CheckedLaws.{good-are-checked}
+use Rattle.golden.proofs.FileLaws.{file-whole, judged-at}
+use Rattle.golden.proofs.FoundLaws.{has-its-own-name, reason-settles-find}
 use Rattle.golden.proofs.MakingLaws.{record-length}
-use Rattle.golden.proofs.RecordLaws.{length-least, length-most, length-kept, record-good, message-long}
+use Rattle.golden.proofs.RecordLaws.{length-least, length-most, clear-behind, message-long}
+use Rattle.golden.proofs.SelectLaws.{select-none}
 
 -- ---- the parts of a record that was made
 
@@ -60,11 +63,6 @@ no-difference : (m : List ℕ) (i : ℕ) → i < length m → differsAt m m i �
 unfolding differsAt
 no-difference m i h = rw (lt-leb (length m) i h, eq-eqb (getD m i 0) (getD m i 0) refl)
 
-select-none : (p : ℕ → Bool) (k n : ℕ) → ((i : ℕ) → k ≤ i → i < k + n → p i ≡ false) → select p k n ≡ []
-unfolding select
-select-none p k zero h = refl
-select-none p k (suc n) h = rw (h k (omega arith) (omega arith)) (select-none p (k + 1) n (λ i a b. h i (omega arith) (omega arith)))
-
 no-differences : (m : List ℕ) → differing m m ≡ []
 unfolding differing
 no-differences m =
@@ -92,8 +90,7 @@ module _ (m : List ℕ) (fields : Fields) (short : length m ≤ messageRoom) (ac
   one = ap (λ (n : ℕ). n / recordSize) size
 
   whole : badFile file ≡ false
-  unfolding badFile
-  whole = rw size
+  whole = file-whole file (record { full = omega (arith, size, one); few = omega (arith, one) })
 
   first : recordAt file 0 ≡ file
   first = take-all recordSize file (omega (arith, size))
@@ -102,19 +99,24 @@ module _ (m : List ℕ) (fields : Fields) (short : length m ≤ messageRoom) (ac
   message-made = rw first (message-back m)
 
   judged : judgedAt file 0 ≡ good fields
-  unfolding judgedAt
   judged =
-      rw first
-      (record-good file fields
+      judged-at file 0 fields
+      (rw first
       (record {
-        size = rw (stored-back m) (length-kept (length m) (accepted-least m fields accepts) short);
-        clear = clear-back m;
+        least = rw (stored-back m) (accepted-least m fields accepts);
+        most = rw (stored-back m) short;
+        clear = clear-behind file (clear-back m);
         accepts = rw (message-back m) accepts;
       }))
 
   pub checks : checking file ≡ counted 1
-  unfolding checking checkFrom
-  checks = rw (whole, one, judged)
+  checks =
+      good-are-checked file 1
+      (record {
+        whole = whole;
+        count = sym one;
+        records = λ k l. let e : k ≡ 0 = omega arith in rw e (record { fields = fields; judged = judged });
+      })
 
   pub compared : comparing file 0 m ≡ positions []
   unfolding comparing
@@ -125,9 +127,9 @@ module _ (m : List ℕ) (fields : Fields) (short : length m ≤ messageRoom) (ac
   compares = ap compareAnswer compared
 
   pub finds : finding file (nameOf fields) ≡ found 0 1
-  unfolding finding findFrom
   finds =
-      rw (whole, one, judged, eq-eqb (fields .header .messageType) (fields .header .messageType) refl, eq-eqb (fields .header .number) (fields .header .number) refl)
+      reason-settles-find file (nameOf fields) (found 0 1)
+      (first-named 0 fields whole (omega (arith, one)) judged (has-its-own-name fields) (λ i l. absurd (omega arith)))
 
 -- ---- what made a record: a message that is short enough and accepted
 
@@ -162,22 +164,12 @@ made-is-good m entry exit a kept e =
 
 -- ---- 25 never carries 1
 
-refusalIn : Judged → Refusal
-refusalIn (good f) = record { number = 0 }
-refusalIn (bad (plainly n)) = record { number = 0 }
-refusalIn (bad (passingOn n r)) = r
-
-numberIn : Judged → ℕ
-numberIn (good f) = 0
-numberIn (bad r) = numbersOf r .number
-
 bad-reading : (a b : Bool) (x : Answer) (r : Refusal) → cond a (bad (plainly 23)) (cond b (bad (plainly 24)) (byReading x)) ≡ bad (passingOn 25 r)
     → (a ≡ false) × (x ≡ envelope.refused r)
-unfolding numberIn refusalIn
-bad-reading true b x r e = absurd (let z = ap numberIn e in omega arith)
-bad-reading false true x r e = absurd (let z = ap numberIn e in omega arith)
-bad-reading false false (accepted f) r e = absurd (let z = ap numberIn e in omega arith)
-bad-reading false false (envelope.refused q) r e = (refl, ap (λ (j : Judged). envelope.refused (refusalIn j)) e)
+bad-reading true b x r e = absurd (let z : _≡_ {A = ℕ} 0 1 = cc in omega arith)
+bad-reading false true x r e = absurd (let z : _≡_ {A = ℕ} 0 1 = cc in omega arith)
+bad-reading false false (accepted f) r e = absurd (let z : _≡_ {A = ℕ} 0 1 = cc in omega arith)
+bad-reading false false (envelope.refused q) r e = (refl, cc)
 
 pub never-too-short : NeverTooShort
 unfolding judgedAt judging

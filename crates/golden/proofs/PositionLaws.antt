@@ -3,11 +3,12 @@
 use mathlib.Core.Bool.{Bool, true, false, cond}
 use mathlib.Core.List.{List, [], _∷_, _++_}
 use mathlib.Core.Path.{_≡_, refl, ap, sym, _∙_}
-use Prim.Native.Nat.{ℕ, suc, _+_, _-_, _≤_, _<_}
+use Prim.Native.Nat.{ℕ, _+_, _-_, _≤_, _<_}
 use native.Mathlib.Omega.{arith}
 use lib.ListN.{length, set, length-append}
 use lib.Seq.{set-out, set-at, append-snoc}
 use Rattle.golden.specs.Positions.{noted, select}
+use Rattle.golden.proofs.SelectLaws.{select-step, select-none}
 
 abbrev pub putAll : List ℕ → ℕ → List ℕ → List ℕ
 putAll l t [] = l
@@ -29,15 +30,6 @@ put-noted : (ds l : List ℕ) → putAll l 0 ds ≡ noted ds l
 put-noted ds l = put-after ds l [] 0 refl
 
 -- ---- one position on
-
-select-step : (p : ℕ → Bool) (k n : ℕ) → k < n
-    → select p k (n - k) ≡ cond (p k) (k ∷ select p (k + 1) (n - (k + 1))) (select p (k + 1) (n - (k + 1)))
-unfolding select
-select-step p k n h = let e : n - k ≡ suc (n - (k + 1)) = omega arith in rw e
-
-select-none : (p : ℕ → Bool) (k m : ℕ) → m ≡ 0 → select p k m ≡ []
-unfolding select
-select-none p k m e = rw e
 
 turn-total : (b : Bool) (k t : ℕ) (ks : List ℕ) → cond b (t + 1) t + length ks ≡ t + length (cond b (k ∷ ks) ks)
 turn-total true k t ks = omega arith
@@ -80,5 +72,5 @@ going-on p n l₀ l t k l′ t′ g h e q s =
 pub going-end : (p : ℕ → Bool) (n : ℕ) (l₀ l : List ℕ) (t k : ℕ) → Going p n l₀ l t k → n ≤ k
     → (t ≡ length (select p 0 n)) × (l ≡ noted (select p 0 n) l₀)
 going-end p n l₀ l t k g h =
-    let z : select p k (n - k) ≡ [] = select-none p k (n - k) (omega arith) in
+    let z : select p k (n - k) ≡ [] = select-none p k (n - k) (λ x a b. absurd (omega arith)) in
     (omega (arith, ap length z, g .total), ap (putAll l t) (sym z) ∙ g .left ∙ put-noted (select p 0 n) l₀)

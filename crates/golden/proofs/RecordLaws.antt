@@ -1,8 +1,8 @@
 -- Laws of a record: a scan for bytes that are not zero, and what a judgement says of the record's parts.
 -- `Good` has everything that a good record keeps.
-use mathlib.Core.Bool.{Bool, true, false, cond}
+use mathlib.Core.Bool.{true, false, not}
 use mathlib.Core.List.{List, [], _∷_}
-use mathlib.Core.Path.{_≡_, refl, sym, _∙_}
+use mathlib.Core.Path.{_≡_, refl, ap, sym, _∙_}
 use Prim.Native.Nat.{ℕ, zero, suc, _+_, _-_, _*_, _≤_, _<_}
 use native.Mathlib.Numerals.{add-one}
 use native.Mathlib.Omega.{arith}
@@ -10,13 +10,13 @@ use borrow.Author.Tests.{eq-eqb, eqb-true, ne-eqb, le-ltb, ltb-false, not-false}
 use lib.Dec.{eqb, ltb}
 use lib.ListN.{length, take, drop, getD, drop-of-length-le, length-drop}
 use lib.Seq.{drop-cons, getD-drop, take-all, length-take-le}
-use Rattle.envelope.proofs.BoolLaws.{both, neither}
+use Rattle.envelope.proofs.BoolLaws.{both, neither, past}
 use Rattle.envelope.specs.Fields.{Fields, Answer, accepted, refused}
 use Rattle.envelope.specs.Layout.{leastSize}
 use Rattle.envelope.specs.Reading.{reading}
 use Rattle.envelope.specs.Refusals.{Refused}
 use Rattle.golden.specs.File.{countOf, recordAt}
-use Rattle.golden.specs.Record.{recordSize, headSize, messageRoom, storedLength, messageOf, allZero, badLength, notClear, Judged, good, bad, byReading, judging}
+use Rattle.golden.specs.Record.{recordSize, headSize, messageRoom, storedLength, messageOf, allZero, badLength, notClear, good, bad, byReading, judging}
 
 -- ---- a scan for zeros, one byte on
 
@@ -32,12 +32,17 @@ pub zeros-end : (s : List ℕ) (i : ℕ) → length s ≤ i → allZero (drop i 
 unfolding allZero
 zeros-end s i h = rw (drop-of-length-le s h)
 
--- where all are zero, each is
+-- where all are zero, each is; and back
 zeros-each : (s : List ℕ) (i : ℕ) → allZero s ≡ true → getD s i 0 ≡ 0
 unfolding allZero
 zeros-each [] i e = refl
 zeros-each (b ∷ s) zero e = eqb-true b 0 (both (eqb b 0) (allZero s) e .0)
 zeros-each (b ∷ s) (suc i) e = zeros-each s i (both (eqb b 0) (allZero s) e .1)
+
+each-zero : (s : List ℕ) → ((i : ℕ) → getD s i 0 ≡ 0) → allZero s ≡ true
+unfolding allZero
+each-zero [] h = refl
+each-zero (b ∷ s) h = rw (eq-eqb b 0 (h 0)) (each-zero s (λ i. h (suc i)))
 
 -- a part that ends at the end
 pub part-to-end : (k : ℕ) (r : List ℕ) → take (length r - k) (drop k r) ≡ drop k r
@@ -60,13 +65,25 @@ length-kept l h k = rw (le-ltb l leastSize h, le-ltb messageRoom l k)
 -- ---- a good record
 
 pub record Good (r : List ℕ) (f : Fields) : Type 0 where
-  pub size : badLength (storedLength r) ≡ false
-  pub clear : notClear r ≡ false
+  pub least : leastSize ≤ storedLength r
+  pub most : storedLength r ≤ messageRoom
+  pub clear : (i : ℕ) → headSize + storedLength r ≤ i → getD r i 0 ≡ 0
   pub accepts : reading (messageOf r) ≡ accepted f
 
-past : (b : Bool) (x : Refused) (rest : Judged) (f : Fields) → cond b (bad x) rest ≡ good f → (b ≡ false) × (rest ≡ good f)
-past true x rest f e = (cc, cc)
-past false x rest f e = (refl, e)
+-- every byte after the message is zero, and back
+pub clear-behind : (r : List ℕ) → notClear r ≡ false → (i : ℕ) → headSize + storedLength r ≤ i → getD r i 0 ≡ 0
+clear-behind r e i h =
+    let n = headSize + storedLength r in
+    let at : n + (i - n) ≡ i = omega arith in
+    rw at at (sym (getD-drop n r (i - n) 0) ∙ zeros-each (drop n r) (i - n) (not-false (allZero (drop n r)) e))
+
+behind-clear : (r : List ℕ) → ((i : ℕ) → headSize + storedLength r ≤ i → getD r i 0 ≡ 0) → notClear r ≡ false
+behind-clear r h =
+    let n = headSize + storedLength r in
+    ap not (each-zero (drop n r) (λ i. getD-drop n r i 0 ∙ h (n + i) (omega arith)))
+
+pub bad-is-not-good : {x : Refused} {f : Fields} → bad x ≡ good f → ⊥
+bad-is-not-good e = let z : _≡_ {A = ℕ} 0 1 = cc in omega arith
 
 by-reading : (a : Answer) (f : Fields) → byReading a ≡ good f → a ≡ accepted f
 by-reading (accepted g) f e = cc
@@ -75,20 +92,18 @@ by-reading (refused r) f e = cc
 pub good-record : (r : List ℕ) (f : Fields) → judging r ≡ good f → Good r f
 unfolding judging
 good-record r f e =
-    let p = past (badLength (storedLength r)) _ _ f e in
-    let q = past (notClear r) _ _ f (p .1) in
-    record { size = p .0; clear = q .0; accepts = by-reading (reading (messageOf r)) f (q .1) }
-
--- every byte after its message is zero
-pub behind-message : (r : List ℕ) (f : Fields) → Good r f → (i : ℕ) → headSize + storedLength r ≤ i → getD r i 0 ≡ 0
-behind-message r f g i h =
-    let n = headSize + storedLength r in
-    let e : n + (i - n) ≡ i = omega arith in
-    rw e at (sym (getD-drop n r (i - n) 0) ∙ zeros-each (drop n r) (i - n) (not-false (allZero (drop n r)) (g .clear)))
+    let p = past (badLength (storedLength r)) bad-is-not-good e in
+    let q = past (notClear r) bad-is-not-good (p .1) in
+    record {
+      least = length-least (storedLength r) (p .0);
+      most = length-most (storedLength r) (p .0);
+      clear = clear-behind r (q .0);
+      accepts = by-reading (reading (messageOf r)) f (q .1);
+    }
 
 pub record-good : (r : List ℕ) (f : Fields) → Good r f → judging r ≡ good f
 unfolding judging
-record-good r f g = rw (g .size, g .clear, g .accepts)
+record-good r f g = rw (length-kept (storedLength r) (g .least) (g .most), behind-clear r (g .clear), g .accepts)
 
 -- ---- how long they are
 

@@ -1,50 +1,25 @@
--- What `same` says, and what `check` says of the record that it names.
+-- What `same` says: the messages have the same bytes.
 -- No place that is selected: none differs, so the lengths and the bytes are the same.
-use mathlib.Core.Bool.{Bool, true, false, cond, not, _||_}
+use mathlib.Core.Bool.{false, not, _||_}
 use mathlib.Core.List.{List, [], _∷_}
-use mathlib.Core.Path.{_≡_, refl, ap, sym, _∙_}
-use Prim.Native.Nat.{ℕ, zero, suc, _+_, _≤_, _<_}
+use mathlib.Core.Path.{_≡_, refl}
+use Prim.Native.Nat.{ℕ, _<_}
 use native.Mathlib.Decide.{decLt}
 use native.Mathlib.Omega.{arith}
 use borrow.Author.Tests.{eqb-true, ne-eqb, not-false, leb-false, lt-ltb, le-ltb}
 use lib.Dec.{eqb, leb}
 use lib.ListN.{length, getD}
 use lib.Seq.{ext-getD}
-use Rattle.envelope.proofs.BoolLaws.{neither}
+use Rattle.envelope.proofs.BoolLaws.{neither, past}
 use Rattle.envelope.specs.Fields.{Answer, accepted}
 use Rattle.envelope.specs.Fields as envelope
 use Rattle.envelope.specs.Reading.{reading}
-use Rattle.envelope.specs.Refusals.{Refused, plainly}
-use Rattle.golden.specs.Checking.{unlessBad, checkFrom, checking}
-use Rattle.golden.specs.Checking as check
+use Rattle.envelope.specs.Refusals.{Refused}
 use Rattle.golden.specs.Comparing.{differsAt, longer, differing, isProperBeginning, CompareOutcome, positions, refused, comparingMessages, withRadio, withRecord, comparing, same, different, compareAnswer}
-use Rattle.golden.specs.File.{badFile, countOf, notThere, recordAt, judgedAt}
-use Rattle.golden.specs.Positions.{select}
+use Rattle.golden.specs.File.{badFile, notThere, recordAt, judgedAt}
 use Rattle.golden.specs.Record.{Judged, good, bad, messageOf}
-use Rattle.golden.specs.Theorems.{GoodAt, FirstBad, not-a-file, bad-record, CheckNamesTheFirst, SameIsEqual}
-
--- ---- same
-
-nothing-there : (x : ℕ) (xs : List ℕ) → x ∷ xs ≡ [] → {A : Type 0} → A
-nothing-there x xs e = absurd (let z : suc (length xs) ≡ 0 = ap length e in omega arith)
-
-passed-over : (b : Bool) (k : ℕ) (rest : List ℕ) → cond b (k ∷ rest) rest ≡ [] → (b ≡ false) × (rest ≡ [])
-passed-over true k rest e = nothing-there k rest e
-passed-over false k rest e = (refl, e)
-
-here-or-later : (p : ℕ → Bool) (k i : ℕ) → p k ≡ false → k ≤ i → (k + 1 ≤ i → p i ≡ false) → p i ≡ false
-here-or-later p k i here a later = by (decLt k i)
-  where
-    by : Dec (k < i) → p i ≡ false
-    by (yes l) = later (omega arith)
-    by (no l) = let q : i ≡ k = omega arith in ap p q ∙ here
-
-none-selected : (p : ℕ → Bool) (k left i : ℕ) → select p k left ≡ [] → k ≤ i → i < k + left → p i ≡ false
-unfolding select
-none-selected p k zero i e a b = absurd (omega arith)
-none-selected p k (suc left) i e a b =
-    let o = passed-over (p k) k (select p (k + 1) left) e in
-    here-or-later p k i (o .0) a (λ h. none-selected p (k + 1) left i (o .1) h (omega arith))
+use Rattle.golden.specs.Theorems.{SameIsEqual}
+use Rattle.golden.proofs.SelectLaws.{none-selected}
 
 module _ (g r : List ℕ) (e : differing g r ≡ []) where
   no-difference : (k : ℕ) → k < longer g r → differsAt g r k ≡ false
@@ -77,74 +52,26 @@ no-position (positions (k ∷ ks)) e =
     absurd (let z : _≡_ {A = ℕ} 0 1 = cc in omega arith)
 no-position (refused x) e = absurd (let z : _≡_ {A = ℕ} 0 1 = cc in omega arith)
 
-past : (b : Bool) (x : Refused) (o : CompareOutcome) → cond b (refused x) o ≡ positions [] → o ≡ positions []
-past true x o e = absurd (let z : _≡_ {A = ℕ} 0 1 = cc in omega arith)
-past false x o e = e
+refused-has-none : {x : Refused} {ks : List ℕ} → refused x ≡ positions ks → ⊥
+refused-has-none e = let z : _≡_ {A = ℕ} 0 1 = cc in omega arith
 
 of-messages : (g r : List ℕ) → comparingMessages g r ≡ positions [] → g ≡ r
 unfolding comparingMessages
 of-messages g r e =
-    let p : positions (differing g r) ≡ positions [] = past (isProperBeginning g r) (plainly 32) (positions (differing g r)) e in
+    let p = past (isProperBeginning g r) refused-has-none e .1 in
     let d : differing g r ≡ [] = cc in
     equal-messages g r d
 
 of-radio : (g r : List ℕ) (a : Answer) → withRadio g r a ≡ positions [] → g ≡ r
-of-radio g r (envelope.refused x) e = absurd (let z : _≡_ {A = ℕ} 0 1 = cc in omega arith)
+of-radio g r (envelope.refused x) e = absurd (refused-has-none e)
 of-radio g r (accepted f) e = of-messages g r e
 
 of-record : (g r : List ℕ) (j : Judged) → withRecord g r j ≡ positions [] → g ≡ r
-of-record g r (bad x) e = absurd (let z : _≡_ {A = ℕ} 0 1 = cc in omega arith)
+of-record g r (bad x) e = absurd (refused-has-none e)
 of-record g r (good f) e = of-radio g r (reading r) e
 
 pub same-is-equal : SameIsEqual
 unfolding comparing
 same-is-equal f n radio e =
     of-record (messageOf (recordAt f n)) radio (judgedAt f n)
-    (past (notThere f n) (plainly 22) _ (past (badFile f) (plainly 21) _ (no-position (comparing f n radio) e)))
-
--- ---- the first bad record
-
--- of the records from k on, of which there are so many
-record FirstFrom (f : List ℕ) (k left n : ℕ) (r : Refused) : Type 0 where
-  least : k ≤ n
-  most : n < k + left
-  judged : judgedAt f n ≡ bad r
-  before : (i : ℕ) → k ≤ i → i < n → GoodAt f i
-
--- record k decides, or the others do
-from-this : (f : List ℕ) (k left n : ℕ) (r : Refused) (j : Judged) → judgedAt f k ≡ j → unlessBad k j (checkFrom f (k + 1) left) ≡ check.refused n r
-    → (checkFrom f (k + 1) left ≡ check.refused n r → FirstFrom f (k + 1) left n r) → FirstFrom f k (suc left) n r
-from-this f k left n r (bad x) ej d others =
-    let en : k ≡ n = cc in
-    let er : x ≡ r = cc in
-    record { least = omega arith; most = omega arith; judged = ap (judgedAt f) (sym en) ∙ ej ∙ ap bad er; before = λ i a b. absurd (omega arith) }
-from-this f k left n r (good g) ej d others =
-    let rest = others d in
-    record {
-      least = omega (arith, rest .least);
-      most = omega (arith, rest .most);
-      judged = rest .judged;
-      before = λ i a b. earlier i a (decLt k i) (λ l. rest .before i l b);
-    }
-  where
-    earlier : (i : ℕ) → k ≤ i → Dec (k < i) → (k + 1 ≤ i → GoodAt f i) → GoodAt f i
-    earlier i a (yes l) later = later (omega arith)
-    earlier i a (no l) later = let q : i ≡ k = omega arith in rw q (record { fields = g; judged = ej })
-
-first-from : (f : List ℕ) (k left n : ℕ) (r : Refused) → checkFrom f k left ≡ check.refused n r → FirstFrom f k left n r
-unfolding checkFrom
-first-from f k zero n r e = absurd (let z : _≡_ {A = ℕ} 0 1 = cc in omega arith)
-first-from f k (suc left) n r e = from-this f k left n r (judgedAt f k) refl e (λ d. first-from f (k + 1) left n r d)
-
-pub check-names-the-first : CheckNamesTheFirst
-unfolding checking
-check-names-the-first f n r e = by (badFile f) refl e
-  where
-    by : (b : Bool) → badFile f ≡ b → cond b (check.refused 0 (plainly 21)) (checkFrom f 0 (countOf f)) ≡ check.refused n r → FirstBad f n r
-    by true eb d =
-        let en : 0 ≡ n = cc in
-        let er : plainly 21 ≡ r = cc in
-        rw (← en, ← er) (not-a-file eb)
-    by false eb d =
-        let w = first-from f 0 (countOf f) n r d in
-        bad-record n r eb (omega (arith, w .most)) (w .judged) (λ i h. w .before i (omega arith) h)
+    (past (notThere f n) refused-has-none (past (badFile f) refused-has-none (no-position (comparing f n radio) e) .1) .1)

@@ -15,7 +15,7 @@ use Rattle.golden.specs.File.{badFile, countOf, notThere, recordAt, judg
 use Rattle.golden.specs.Listing.{entryOf, entryAt}
 use Rattle.golden.specs.Record.{recordSize, headSize, messageRoom, storedLength, messageOf, Judged, good}
 use Rattle.golden.specs.Stepping.{StepAnswer, refused, end, messagePart, stepOf, stepAt}
-use Rattle.golden.proofs.RecordLaws.{good-record, length-most}
+use Rattle.golden.proofs.FileLaws.{good-at}
 
 module _ (f : List ℕ) (n count : ℕ) (e : count ≡ countOf f) (h : badFile f ≡ false) (l : n < count) (j : Judged) (q : judgedAt f n ≡ j) where
   pub there-steps : stepOf f n j ≡ stepAt f n
@@ -46,8 +46,7 @@ reason f n = go (badFile f) refl (notThere f n) refl
 -- ---- the message of a good record
 
 pub good-size : (f : List ℕ) (n : ℕ) (fields : Fields) → judgedAt f n ≡ good fields → storedLength (recordAt f n) ≤ messageRoom
-unfolding judgedAt
-good-size f n fields e = length-most _ (good-record (recordAt f n) fields e .size)
+good-size f n fields e = good-at f n fields e .most
 
 -- the part that a step hands out holds the record's message
 pub part-is-message : (f : List ℕ) (n : ℕ) (fields : Fields) → judgedAt f n ≡ good fields

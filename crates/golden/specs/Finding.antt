@@ -22,6 +22,10 @@ pub record NameFields : Type 0 where
 abbrev pub hasName : NameFields → Fields → Bool
 hasName name f = eqb (f .header .messageType) (name .messageType) && eqb (f .header .number) (name .number)
 
+-- the name that a message of these fields has
+abbrev pub nameOf : Fields → NameFields
+nameOf f = record { messageType = f .header .messageType; number = f .header .number }
+
 pub data FindAnswer : Type 0 where
   found : (record·number opened : ℕ) → FindAnswer
   refused : Refused → (opened : ℕ) → FindAnswer

@@ -1,4 +1,4 @@
--- What users of a golden file rely on. Each statement is a type here; the proofs stand in proofs/ (WalkLaws, CheckedLaws, SameLaws, MadeLaws, BeginningLaws, FewLaws, KeptLaws, DemandLaws).
+-- What users of a golden file rely on. Each statement is a type here; the proofs stand in proofs/ (WalkLaws, CheckedLaws, FoundLaws, SameLaws, MadeLaws, BeginningLaws, FewLaws, KeptLaws, DemandLaws).
 -- `f` and `g` are files, `n` counts records.
 use Prim.Native.Nat.{ℕ, suc, _+_, _*_, _≤_, _<_}
 use mathlib.Core.Bool.{true, false}
@@ -20,7 +20,7 @@ use Rattle.golden.specs.Checking.{CheckAnswer, counted, checking}
 use Rattle.golden.specs.Checking as check
 use Rattle.golden.specs.Comparing.{isProperBeginning, comparing, CompareAnswer, same, different, refused, compareAnswer, toldComparison, Compares}
 use Rattle.golden.specs.File.{mostRecords, badFile, countOf, recordAt, judgedAt}
-use Rattle.golden.specs.Finding.{NameFields, hasName, FindAnswer, found, finding}
+use Rattle.golden.specs.Finding.{NameFields, hasName, nameOf, FindAnswer, found, finding}
 use Rattle.golden.specs.Finding as find
 use Rattle.golden.specs.Listing.{CountAnswer, counting}
 use Rattle.golden.specs.Listing as listing
@@ -72,6 +72,10 @@ pub record AllGood (f : List ℕ) (n : ℕ) : Type 0 where
 abbrev pub CheckedAreGood : Type 0
 CheckedAreGood = (f : List ℕ) (n : ℕ) → checking f ≡ counted n → AllGood f n
 
+-- and every such file passes
+abbrev pub GoodAreChecked : Type 0
+GoodAreChecked = (f : List ℕ) (n : ℕ) → AllGood f n → checking f ≡ counted n
+
 -- where it refuses a file, the record that it names is bad by that refusal and all before it are good; or it is no golden file
 pub data FirstBad (f : List ℕ) : ℕ → Refused → Type 0 where
   not-a-file : badFile f ≡ true → FirstBad f 0 (plainly 21)
@@ -79,6 +83,10 @@ pub data FirstBad (f : List ℕ) : ℕ → Refused → Type 0 where
 
 abbrev pub CheckNamesTheFirst : Type 0
 CheckNamesTheFirst = (f : List ℕ) (n : ℕ) (r : Refused) → checking f ≡ check.refused n r → FirstBad f n r
+
+-- and every such file is refused so
+abbrev pub FirstBadIsNamed : Type 0
+FirstBadIsNamed = (f : List ℕ) (n : ℕ) (r : Refused) → FirstBad f n r → checking f ≡ check.refused n r
 
 -- record i is good and has another name
 pub record NotNamed (f : List ℕ) (name : NameFields) (i : ℕ) : Type 0 where
@@ -95,6 +103,22 @@ pub data FirstNamed (f : List ℕ) (name : NameFields) (n : ℕ) : FindAnswer �
 abbrev pub FindsTheFirst : Type 0
 FindsTheFirst = (f : List ℕ) (name : NameFields) (n : ℕ) → checking f ≡ counted n → FirstNamed f name n (finding f name)
 
+-- why find answers as it does in any file: all records before the deciding one are good and have other names
+pub data FindReason (f : List ℕ) (name : NameFields) : FindAnswer → Type 0 where
+  no-file : badFile f ≡ true → FindReason f name (find.refused (plainly 21) 0)
+  first-bad : (k : ℕ) (r : Refused) → badFile f ≡ false → k < countOf f → judgedAt f k ≡ bad r
+      → ((i : ℕ) → i < k → NotNamed f name i) → FindReason f name (find.refused r (k + 1))
+  first-named : (k : ℕ) (fields : Fields) → badFile f ≡ false → k < countOf f → judgedAt f k ≡ good fields → hasName name fields ≡ true
+      → ((i : ℕ) → i < k → NotNamed f name i) → FindReason f name (found k (k + 1))
+  none-named : badFile f ≡ false → ((i : ℕ) → i < countOf f → NotNamed f name i) → FindReason f name (find.refused (plainly 27) (countOf f))
+
+abbrev pub FindGivesItsReason : Type 0
+FindGivesItsReason = (f : List ℕ) (name : NameFields) → FindReason f name (finding f name)
+
+-- and each reason settles the answer: a record is found exactly when it is the first of the name, and 27 is answered exactly when there is none
+abbrev pub ReasonSettlesFind : Type 0
+ReasonSettlesFind = (f : List ℕ) (name : NameFields) (a : FindAnswer) → FindReason f name a → finding f name ≡ a
+
 -- ---- compare
 
 -- where it answers same, the record's message and the radio's have the same bytes
@@ -102,9 +126,6 @@ abbrev pub SameIsEqual : Type 0
 SameIsEqual = (f : List ℕ) (n : ℕ) (radio : List ℕ) → compareAnswer (comparing f n radio) ≡ same → messageOf (recordAt f n) ≡ radio
 
 -- ---- make
-
-abbrev pub nameOf : Fields → NameFields
-nameOf fields = record { messageType = fields .header .messageType; number = fields .header .number }
 
 -- where `make` of a message answers made, the buffer is a file of one record: it checks, compares same with the message, and is found by its name
 pub record MadeGood (m exit : List ℕ) : Type 0 where

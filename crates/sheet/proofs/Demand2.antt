@@ -6,9 +6,10 @@ use Rattle.envelope.specs.Qos.{JoinsWhatWasSplit, SplitsWhatWasJoined}
 use Rattle.envelope.specs.RoundTrips.{WrittenThenRead, WrittenBufferThenRead, WrittenThenHandedOut, ReadThenWritten, HandedOutThenWritten, SameFieldsSameBytes}
 use Rattle.envelope.proofs.QosLaws.{joins-what-was-split, splits-what-was-joined}
 use Rattle.envelope.proofs.RoundTripLaws as trips
-use Rattle.golden.specs.Theorems.{FileWalksInOrder, OtherFileStays, CheckedAreGood, CheckNamesTheFirst, FindsTheFirst, SameIsEqual, MadeIsGood, NeverTooShort, NeverABeginning}
+use Rattle.golden.specs.Theorems.{FileWalksInOrder, OtherFileStays, CheckedAreGood, GoodAreChecked, CheckNamesTheFirst, FirstBadIsNamed, FindsTheFirst, FindGivesItsReason, ReasonSettlesFind, SameIsEqual, MadeIsGood, NeverTooShort, NeverABeginning}
 use Rattle.golden.proofs.BeginningLaws as beginning
 use Rattle.golden.proofs.CheckedLaws as checked
+use Rattle.golden.proofs.FoundLaws as found
 use Rattle.golden.proofs.MadeLaws as made
 use Rattle.golden.proofs.SameLaws as same
 use Rattle.golden.proofs.WalkLaws as walk
@@ -54,11 +55,23 @@ other-file-stays = walk.other-file-stays
 pub checked-are-good : CheckedAreGood
 checked-are-good = checked.checked-are-good
 
+pub good-are-checked : GoodAreChecked
+good-are-checked = checked.good-are-checked
+
 pub check-names-the-first : CheckNamesTheFirst
-check-names-the-first = same.check-names-the-first
+check-names-the-first = checked.check-names-the-first
+
+pub first-bad-is-named : FirstBadIsNamed
+first-bad-is-named = checked.first-bad-is-named
 
 pub finds-the-first : FindsTheFirst
 finds-the-first = checked.finds-the-first
+
+pub find-gives-its-reason : FindGivesItsReason
+find-gives-its-reason = found.find-gives-its-reason
+
+pub reason-settles-find : ReasonSettlesFind
+reason-settles-find = found.reason-settles-find
 
 pub same-is-equal : SameIsEqual
 same-is-equal = same.same-is-equal

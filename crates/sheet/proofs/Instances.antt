@@ -32,17 +32,19 @@ use Rattle.envelope.specs.declared.rewriter.Rewriting.the-variants.{Unread}
 use Rattle.envelope.specs.declared.writer.Writing.the-variants.{Written, Refused}
 use Rattle.envelope.specs.declared.writer.WriteFault.the-variants.{NoRoom}
 use Rattle.golden.specs.Checking.{counted, checking}
+use Rattle.golden.specs.Checking as check
 use Rattle.golden.specs.Comparing.{properBeginning, comparing, listAfter}
 use Rattle.golden.specs.Comparing as compare
 use Rattle.golden.specs.File.{badFile, recordAt, judgedAt}
 use Rattle.golden.specs.Finding.{finding}
+use Rattle.golden.specs.Finding as find
 use Rattle.golden.specs.Making.{making, recordOf}
 use Rattle.golden.specs.Making as make
 use Rattle.golden.specs.Refusal.{plainly}
 use Rattle.golden.specs.Record.{storedWord, storedLength, badLength, allZero, judging, messageOf}
 use Rattle.golden.specs.Stepping.{end, stepAt, nextAfter, toldReached}
 use Rattle.golden.specs.Stepping as step
-use Rattle.golden.specs.Theorems.{AllGood, FirstBad, FirstNamed, MadeGood, InOrder}
+use Rattle.golden.specs.Theorems.{AllGood, FirstBad, FirstNamed, no-file, MadeGood, InOrder}
 use Rattle.golden.specs.declared.comparer.Comparison.the-variants.{NoRecord}
 use Rattle.golden.specs.declared.maker.Making.the-variants.{Made, WrongBuffer}
 use Rattle.golden.specs.Walking.{Walks}
@@ -56,7 +58,7 @@ use Rattle.sheet.specs.Cases.{M, likeM, C, fieldsOfC}
 use Rattle.sheet.specs.Limits.{acrossTheEdge}
 use Rattle.sheet.proofs.Cases.{starred}
 use Rattle.sheet.proofs.Demand1.{a-word-tells-its-slots, a-refusal-writes-nothing, a-refused-rewrite-writes-nothing, refused-read-for-c-keeps, a-refused-comparison-keeps-the-list, a-refused-making-keeps-the-buffer}
-use Rattle.sheet.proofs.Demand2.{written-then-read, written-buffer-then-read, written-then-handed-out, read-then-written, handed-out-then-written, same-fields-same-bytes, qos-joins-what-was-split, qos-splits-what-was-joined, file-walks-in-order, other-file-stays, checked-are-good, check-names-the-first, finds-the-first, same-is-equal, made-is-good, never-a-beginning}
+use Rattle.sheet.proofs.Demand2.{written-then-read, written-buffer-then-read, written-then-handed-out, read-then-written, handed-out-then-written, same-fields-same-bytes, qos-joins-what-was-split, qos-splits-what-was-joined, file-walks-in-order, other-file-stays, checked-are-good, good-are-checked, check-names-the-first, first-bad-is-named, finds-the-first, reason-settles-find, same-is-equal, made-is-good, never-a-beginning}
 use Rattle.sheet.proofs.Apart.{apart}
 use Rattle.sheet.proofs.Demand3.{four-bytes-show, thirty-two-bits-show, three-bits-show, bytes-at-the-edge-show, two-and-two-show, demand-3, demand-3-bits, golden-demand-3, three-bits-anywhere, golden-three-bits-anywhere, any-window, golden-any-window, middle-window, golden-middle-window}
 use Rattle.sheet.proofs.Limits.{limits, bytes-of-pair, pair-length, pair-outside}
@@ -143,6 +145,9 @@ made-file-is-the-message = same-is-equal file 0 M (made-file-is-good .compares)
 pub a-short-length-is-the-first : FirstBad shortLength 0 (plainly 23)
 a-short-length-is-the-first = check-names-the-first shortLength 0 (plainly 23) (bad-records .0)
 
+pub a-short-length-is-refused : checking shortLength ≡ check.refused 0 (plainly 23)
+a-short-length-is-refused = first-bad-is-named shortLength 0 (plainly 23) a-short-length-is-the-first
+
 pub one-byte-is-no-file : FirstBad (7 ∷ []) 0 (plainly 21)
 unfolding checking badFile
 one-byte-is-no-file = check-names-the-first (7 ∷ []) 0 (plainly 21) refl
@@ -150,8 +155,15 @@ one-byte-is-no-file = check-names-the-first (7 ∷ []) 0 (plainly 21) refl
 pub made-file-has-good-records : AllGood file 1
 made-file-has-good-records = checked-are-good file 1 checks-M
 
+pub made-file-passes : checking file ≡ counted 1
+made-file-passes = good-are-checked file 1 made-file-has-good-records
+
 pub made-file-is-searched : FirstNamed file (record { messageType = 6000; number = 1 }) 1 (finding file (record { messageType = 6000; number = 1 }))
 made-file-is-searched = finds-the-first file (record { messageType = 6000; number = 1 }) 1 checks-M
+
+pub one-byte-is-not-searched : finding (7 ∷ []) (record { messageType = 6000; number = 1 }) ≡ find.refused (plainly 21) 0
+unfolding badFile
+one-byte-is-not-searched = reason-settles-find (7 ∷ []) (record { messageType = 6000; number = 1 }) (find.refused (plainly 21) 0) (no-file refl)
 
 pub M-and-C-no-beginning : properBeginning M C ≡ false
 M-and-C-no-beginning = never-a-beginning M C (likeM absent 17 0) fieldsOfC (starred .a .0) (starred .kind-crc)
