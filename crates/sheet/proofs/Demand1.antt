@@ -1,10 +1,12 @@
--- Demand 1: a refusal leaves what was lent as it was, and nothing is lost in an answer's word.
+-- Demand 1: a refusal is one of its operation's own and leaves what was lent as it was, and nothing is lost in an answer's word.
 -- That each function takes any input is what its proof says: none has a `requires`. That it has one answer is the "only" theorem of its crate.
 use Rattle.envelope.specs.Rewriting.{RefusedRewriteWritesNothing}
 use Rattle.envelope.specs.Writing.{RefusalWritesNothing}
 use Rattle.envelope.proofs.RewriteLaws.{refused-rewrite-writes-nothing}
 use Rattle.envelope.proofs.WriteLaws.{refusal-writes-nothing}
+use Rattle.golden.specs.Gives.{CountGives, CheckGives, FindGives, StepGives, EntryGives, CompareGives, MakeGives}
 use Rattle.golden.specs.Theorems.{RefusedComparisonKeepsList, RefusedMakingKeepsBuffer}
+use Rattle.golden.proofs.GivesLaws as gives
 use Rattle.golden.proofs.KeptLaws.{refused-comparison-keeps-list, refused-making-keeps-buffer}
 use Rattle.exports.specs.Kept.{ReadKeeps, WriteKeeps, RewriteKeeps, LineKeeps, StepKeeps, CompareKeeps, MakeKeeps, UnwrapKeeps, WrapKeeps, AcknowledgeKeeps, TakeKeepsFields}
 use Rattle.exports.specs.Word.{WordTellsItsSlots}
@@ -14,6 +16,29 @@ use Rattle.exports.proofs.KeptLaws as kept
 -- nothing is lost in an answer's word: the four slots come back
 pub a-word-tells-its-slots : WordTellsItsSlots
 a-word-tells-its-slots = word-tells-its-slots
+
+-- ---- which refusals each operation of the golden file can give; of frames in Framing
+
+pub count-gives : CountGives
+count-gives = gives.count-gives
+
+pub check-gives : CheckGives
+check-gives = gives.check-gives
+
+pub find-gives : FindGives
+find-gives = gives.find-gives
+
+pub step-gives : StepGives
+step-gives = gives.step-gives
+
+pub entry-gives : EntryGives
+entry-gives = gives.entry-gives
+
+pub compare-gives : CompareGives
+compare-gives = gives.compare-gives
+
+pub make-gives : MakeGives
+make-gives = gives.make-gives
 
 -- ---- a refusal leaves what was lent as it was
 

@@ -14,7 +14,7 @@ use Rattle.envelope.specs.Qos.{joining}
 use Rattle.envelope.specs.Reading.{reading}
 use Rattle.envelope.specs.Writing.{badEnd, hasZero}
 use Rattle.golden.specs.Checking.{checkFrom, checking}
-use Rattle.golden.specs.Comparing.{Outcome, positions, declined, comparing, listAfter}
+use Rattle.golden.specs.Comparing.{CompareOutcome, positions, refused, comparing, afterComparing}
 use Rattle.golden.specs.File.{badFile}
 use Rattle.golden.specs.Finding.{findFrom, finding}
 use Rattle.golden.specs.Listing.{counting}
@@ -38,14 +38,14 @@ full-file : (f : List ℕ) → length f ≡ 65536 → FullFile f
 unfolding badFile
 full-file f e = record { whole = rw e refl; count = rw e refl; last = rw e refl; past-the-last = rw e refl }
 
-kept-empty : (o : Outcome) → listAfter o [] ≡ []
-unfolding listAfter noted
+kept-empty : (o : CompareOutcome) → afterComparing o [] ≡ []
+unfolding afterComparing noted
 kept-empty (positions []) = refl
 kept-empty (positions (k ∷ ks)) = refl
-kept-empty (declined x) = refl
+kept-empty (refused x) = refl
 
 pub edges : Edges
-unfolding reading badVariableSize badFlags badEnd hasZero joining badFile badLength listAfter noted
+unfolding reading badVariableSize badFlags badEnd hasZero joining badFile badLength afterComparing noted
 edges =
     record {
       no-bytes = refl;

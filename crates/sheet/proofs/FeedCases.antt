@@ -17,9 +17,9 @@ use Rattle.envelope.specs.Reading.{headerOf, addressingOf, integrityOf, fieldsO
 use Rattle.envelope.specs.declared.reader.Fault.the-variants.{BadIntegrity}
 use Rattle.feed.specs.Feeding.{inside, whole, fresh, message, byteIn, taking, ending}
 use Rattle.feed.specs.Stream.{streaming}
-use Rattle.feed.specs.Verdict.{bad, verdict}
-use Rattle.feed.specs.declared.fault.Fault.{Fault}
-use Rattle.feed.specs.declared.fault.Fault.the-variants.{Unread}
+use Rattle.feed.specs.Verdict.{refused, verdict}
+use Rattle.feed.specs.declared.refusal.Refusal.{Refusal}
+use Rattle.feed.specs.declared.refusal.Refusal.the-variants.{MessageRefused}
 use Rattle.feed.proofs.SettlingLaws.{refused-when-complete}
 use Rattle.sheet.specs.Cases.{M, C, fieldsOfC}
 use Rattle.sheet.specs.FeedCases.{number, heldBy, fed, refusedAt, damagedC, FeedCases}
@@ -39,12 +39,12 @@ pub announces-damaged : announcing damagedC ≡ announces 23
 unfolding announcing heading announced badFlags badVariableSize threeAt
 announces-damaged = refl
 
-pub verdict-damaged : verdict damagedC ≡ bad (number 7)
+pub verdict-damaged : verdict damagedC ≡ refused (number 7)
 unfolding verdict announcing heading announced badFlags badVariableSize threeAt
 verdict-damaged = rw reads-damaged
 
-abbrev pub wrongSum : Fault
-wrongSum = Unread (record { fault = BadIntegrity })
+abbrev pub wrongSum : Refusal
+wrongSum = MessageRefused (record { fault = BadIntegrity })
 
 found-C : taking fresh (C ++ M) ≡ fed C whole (message 23 fieldsOfC)
 found-C = sym (takes-whole C envelopeC (lit≤ tt) (starred .kind-crc) M)

@@ -16,18 +16,18 @@ use Rattle.envelope.specs.Reading.{reading}
 use Rattle.envelope.specs.Told.{toldEnvelope}
 use Rattle.envelope.specs.declared.reader.Fault.the-variants.{WrongVersion}
 use Rattle.feed.specs.Cutting.{Came, Calls, over, stopped, call, noCalls, callThen, toldCame, Uses, SettledBy}
-use Rattle.feed.specs.Feeding.{inside, whole, refused, fresh, nothing, message, Outcome, byteIn, taking, ending}
+use Rattle.feed.specs.Feeding.{inside, whole, refused, fresh, nothing, message, FeedOutcome, byteIn, taking, ending}
 use Rattle.feed.specs.Messages.{Few, AllFit, none, also, Between, Silent, SettledAt, Settles}
 use Rattle.feed.specs.Stream.{foundIn, streaming}
 use Rattle.feed.specs.TwoBits.{FoundSomewhere}
 use Rattle.feed.specs.Told.{toldFeed, toldFound, toldTaken, Takes, Ends, Closes}
-use Rattle.feed.specs.Verdict.{bad, verdict}
-use Rattle.feed.specs.declared.fault.Fault.{Fault}
-use Rattle.feed.specs.declared.fault.Fault.the-variants.{Unread, Cut}
+use Rattle.feed.specs.Verdict.{refused, verdict}
+use Rattle.feed.specs.declared.refusal.Refusal.{Refusal}
+use Rattle.feed.specs.declared.refusal.Refusal.the-variants.{MessageRefused, Cut}
 use Rattle.feed.specs.declared.feeder.Ended.{Ended}
 use Rattle.feed.specs.declared.feeder.Feed.{Feed}
 use Rattle.feed.specs.declared.feeder.Taken.{Taken}
-use Rattle.feed.specs.declared.step.Found.the-variants.{Nothing, Message, Refused as Barred}
+use Rattle.feed.specs.declared.step.Found.the-variants.{Nothing, Message, Refused as FoundRefused}
 use Rattle.feed.specs.declared.step.Standing.the-variants.{Inside, Whole, Refused}
 use Rattle.feed.specs.declared.step.Step.{Step}
 use Rattle.exports.specs.Envelopes.{fieldNumbers}
@@ -85,7 +85,7 @@ abbrev cutFeed : Feed
 cutFeed = record { kept = tenIn .feed .kept; count = 10; standing = Refused Cut }
 
 abbrev cutEnded : Ended
-cutEnded = record { feed = cutFeed; found = Barred Cut }
+cutEnded = record { feed = cutFeed; found = FoundRefused Cut }
 
 ends-computed : Ends (restIn .feed) endedM × Ends (tenIn .feed) cutEnded
 unfolding ending
@@ -107,7 +107,7 @@ pub ten-advance : Takes newFeed (take 10 M) tenIn
 ten-advance = advance-is-take newFeed (take 10 M) (heldBy (take 10 M) inside .kept) tenStep takes-ten
 
 abbrev cutStep : Step
-cutStep = record { count = 10; standing = Refused Cut; used = 0; found = Barred Cut }
+cutStep = record { count = 10; standing = Refused Cut; used = 0; found = FoundRefused Cut }
 
 closes-ten : Closes 10 Inside cutStep
 unfolding ending
@@ -169,10 +169,10 @@ M-at-its-last-byte =
 abbrev otherVersion : List ℕ
 otherVersion = set M 0 3
 
-abbrev version3 : Fault
-version3 = Unread (record { fault = WrongVersion })
+abbrev version3 : Refusal
+version3 = MessageRefused (record { fault = WrongVersion })
 
-verdict-17 : verdict (take 17 otherVersion) ≡ bad (number 2)
+verdict-17 : verdict (take 17 otherVersion) ≡ refused (number 2)
 unfolding verdict announcing heading
 verdict-17 = refl
 
@@ -180,7 +180,7 @@ abbrev sixteenIn : Taken
 sixteenIn = record { feed = record { kept = heldBy (take 16 otherVersion) inside .kept; count = 16; standing = Inside }; used = 16; found = Nothing }
 
 abbrev refusedIn : Taken
-refusedIn = record { feed = record { kept = heldBy (take 17 otherVersion) inside .kept; count = 17; standing = Refused version3 }; used = 17; found = Barred version3 }
+refusedIn = record { feed = record { kept = heldBy (take 17 otherVersion) inside .kept; count = 17; standing = Refused version3 }; used = 17; found = FoundRefused version3 }
 
 takes-refused : Takes newFeed otherVersion refusedIn
 takes-refused = refused-at-the-17th .1 newFeed (take 17 otherVersion) (drop 17 otherVersion) version3 new-between refl verdict-17
@@ -204,7 +204,7 @@ refused-with-the-17th =
     (t .0 (lit< tt), t .2)
 
 abbrev damagedIn : Taken
-damagedIn = record { feed = record { kept = heldBy damagedC whole .kept; count = 23; standing = Refused wrongSum }; used = 23; found = Barred wrongSum }
+damagedIn = record { feed = record { kept = heldBy damagedC whole .kept; count = 23; standing = Refused wrongSum }; used = 23; found = FoundRefused wrongSum }
 
 abbrev cameOfDamaged : Came
 cameOfDamaged = callThen damagedIn (noCalls (damagedIn .feed))
@@ -227,10 +227,10 @@ pub refusal-2-is-kept : refusedIn .feed .standing ≡ Refused version3
 refusal-2-is-kept = refusal-is-kept newFeed version3 otherVersion refusedIn takes-refused refl
 
 abbrev againIn : Taken
-againIn = record { feed = refusedIn .feed; used = 0; found = Barred version3 }
+againIn = record { feed = refusedIn .feed; used = 0; found = FoundRefused version3 }
 
 abbrev againEnded : Ended
-againEnded = record { feed = refusedIn .feed; found = Barred version3 }
+againEnded = record { feed = refusedIn .feed; found = FoundRefused version3 }
 
 repeats-computed : Takes (refusedIn .feed) M againIn × Ends (refusedIn .feed) againEnded
 unfolding taking byteIn ending
@@ -251,7 +251,7 @@ M-ends-between = end-between (restIn .feed) endedM ends-M (record { roomy = refl
 ends-ten : Ends (tenIn .feed) cutEnded
 ends-ten = ends-computed .1
 
-pub ten-ends-inside : cutEnded ≡ record { feed = cutFeed; found = Barred Cut }
+pub ten-ends-inside : cutEnded ≡ record { feed = cutFeed; found = FoundRefused Cut }
 ten-ends-inside = end-inside (tenIn .feed) cutEnded ends-ten (lit< tt)
 
 pub the-end-is-kept : cutFeed .standing ≡ Refused Cut
@@ -279,7 +279,7 @@ foundForC = lent (heldBy M whole .kept) (21 ∷ 255 ∷ []) (fieldNumbers (likeM
 finds-for-c : (fields : List ℕ) → TakesForC (newForC fields) (M ++ M) (word (slots 0 0 21 21)) foundForC
 finds-for-c fields =
     let found = sym (feed-cases .found) in
-    (ap (λ (o : Outcome). word (foundSlots (o .finding) (o .used))) found, ap (λ (o : Outcome). lentAfter o fields) found)
+    (ap (λ (o : FeedOutcome). word (foundSlots (o .finding) (o .used))) found, ap (λ (o : FeedOutcome). lentAfter o fields) found)
 
 abbrev takenM : Taken
 takenM = takenWhole M envelopeM (lit≤ tt) (starred .a .0)
@@ -318,10 +318,10 @@ allButThe17th = record { kept = heldBy (take 16 (set M 0 3)) inside .kept; count
 abbrev versionIn : Taken
 versionIn =
     record {
-      feed = record { kept = heldBy (take 17 (set M 0 3)) inside .kept; count = 17; standing = Refused (Unread (record { fault = WrongVersion })) };
+      feed = record { kept = heldBy (take 17 (set M 0 3)) inside .kept; count = 17; standing = Refused (MessageRefused (record { fault = WrongVersion })) };
       used = 1;
-      found = Barred (Unread (record { fault = WrongVersion }));
+      found = FoundRefused (MessageRefused (record { fault = WrongVersion }));
     }
 
-pub version-is-told : versionIn .found ≡ Barred (Unread (record { fault = WrongVersion }))
+pub version-is-told : versionIn .found ≡ FoundRefused (MessageRefused (record { fault = WrongVersion }))
 version-is-told = refusal-is-told allButThe17th _ (drop 16 (set M 0 3)) versionIn (sym (feed-cases .no-2-cut)) refl

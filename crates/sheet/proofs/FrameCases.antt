@@ -54,7 +54,7 @@ wrap-cases =
       frames = refl;
       just-room = refl;
       no-room = refl;
-      unread-first = refl;
+      message-refused-first = refl;
       acknowledges = refl;
       no-room-acknowledged = refl;
     }

@@ -20,14 +20,14 @@ use Rattle.frame.specs.Capturing.{firstSize, isFrame, takenApart}
 use Rattle.frame.specs.Detecting.{CarriesCrc, carriedMessage}
 use Rattle.frame.specs.Frames.{frame, dataFrame}
 use Rattle.frame.specs.Layout.{leastSize}
-use Rattle.frame.specs.Refusal.{plainly}
+use Rattle.envelope.specs.Refusals.{plainly, Gives}
 use Rattle.frame.specs.RoundTrips.{UnwrapsAs, TellsMessage, Kind}
 use Rattle.frame.specs.Sizes.{messageSize, wroteLength}
 use Rattle.frame.specs.Unwrapping.{acknowledgment, unwrapping, Unwraps}
-use Rattle.frame.specs.Wrapping.{Outcome, written, wrapping, acknowledging, putDown, wrote, answerOf, bufferAfter, toldWrapped}
+use Rattle.frame.specs.Wrapping.{WrapOutcome, written, wrapping, acknowledging, putDown, wrote, wrapAnswer, afterWrapping, toldWrapped}
 use Rattle.frame.specs.declared.unwrapper.Acknowledgment.{Acknowledgment}
 use Rattle.frame.specs.declared.unwrapper.DataMessage.{DataMessage}
-use Rattle.frame.specs.declared.unwrapper.Fault.the-variants.{NoRoom}
+use Rattle.frame.specs.declared.refusal.Refusal.the-variants.{NoRoom}
 use Rattle.frame.specs.declared.unwrapper.Unwrapped.the-variants.{Data, Acknowledged}
 use Rattle.frame.specs.declared.wrapper.Wrapped.the-variants.{Written, Refused}
 use Rattle.frame.proofs.WrapLaws.{past-69}
@@ -65,8 +65,8 @@ pub held-wrapped-then-unwrapped : UnwrapsAs carrier 0x01020304 held
 held-wrapped-then-unwrapped = wrapped-then-unwrapped held 0x01020304 37 carrier (wrap-cases .just-room)
 
 -- what a call with this outcome answers, and what it leaves in a buffer of zeros
-wrote-it : (o : Outcome) (n : ℕ) (s : List ℕ) → o ≡ written s → n ≡ length s
-    → (toldWrapped (Written n) ≡ answerOf o) × (putDown s (replicate n 0) ≡ bufferAfter o (replicate n 0))
+wrote-it : (o : WrapOutcome) (n : ℕ) (s : List ℕ) → o ≡ written s → n ≡ length s
+    → (toldWrapped (Written n) ≡ wrapAnswer o) × (putDown s (replicate n 0) ≡ afterWrapping o (replicate n 0))
 wrote-it o n s e l = rw e (ap wrote l, refl)
 
 pub held-wrapped-buffer-then-unwrapped : TellsMessage (Data tellsHeld) carrier 0x01020304 held
@@ -104,34 +104,34 @@ reply-unwrapped-then-written-buffer =
     unwrapped-then-acknowledged-buffer reply tellsReply (replicate 17 0) reply (Written 17) bytes-of-reply (sym (unwrap-cases .acknowledged)) (omega arith)
     (wrote-it _ 17 reply (wrap-cases .acknowledges) refl)
 
--- ---- the numbers, and a refusal
+-- ---- which refusals, and what one leaves
 
-pub unwrap-gave-61 : (61 ≤ 61) × (61 ≤ 67)
+pub unwrap-gave-61 : Gives (61 ∷ 62 ∷ 63 ∷ 64 ∷ 65 ∷ 66 ∷ []) (67 ∷ []) (plainly 61)
 unwrap-gave-61 = unwrap-gives [] (plainly 61) (unwrap-cases .nothing)
 
-pub wrap-gave-68 : (67 ≤ 68) × (68 ≤ 68)
+pub wrap-gave-68 : Gives (68 ∷ []) (67 ∷ []) (plainly 68)
 wrap-gave-68 = wrap-gives held 0x01020304 36 (plainly 68) (literals held tt) (wrap-cases .no-room)
 
-pub acknowledge-gave-68 : _≡_ {A = ℕ} 68 68
+pub acknowledge-gave-68 : Gives (68 ∷ []) [] (plainly 68)
 acknowledge-gave-68 = acknowledge-gives 9 0x01020304 16 (plainly 68) (wrap-cases .no-room-acknowledged)
 
 pub refused-reply-left-the-buffer : replicate {A = ℕ} 16 0 ≡ replicate 16 0
 refused-reply-left-the-buffer =
     a-refused-frame-writes-nothing (acknowledging 9 0x01020304 16) (replicate 16 0) (replicate 16 0) (Refused NoRoom) (plainly 68)
-    (sym (ap answerOf (wrap-cases .no-room-acknowledged)), sym (ap (λ (o : Outcome). bufferAfter o (replicate 16 0)) (wrap-cases .no-room-acknowledged))) refl
+    (sym (ap wrapAnswer (wrap-cases .no-room-acknowledged)), sym (ap (λ (o : WrapOutcome). afterWrapping o (replicate 16 0)) (wrap-cases .no-room-acknowledged))) refl
 
 -- ---- what is told of sizes
 
 pub wrap-told-37 : _≡_ {A = ℕ} 37 37
-wrap-told-37 = wrap-tells-its-length held 0x01020304 37 37 (literals held tt) (ap answerOf (wrap-cases .just-room))
+wrap-told-37 = wrap-tells-its-length held 0x01020304 37 37 (literals held tt) (ap wrapAnswer (wrap-cases .just-room))
 
 pub acknowledge-told-17 : _≡_ {A = ℕ} 17 17
-acknowledge-told-17 = acknowledge-tells-its-length 9 0x01020304 17 17 (ap answerOf (wrap-cases .acknowledges))
+acknowledge-told-17 = acknowledge-tells-its-length 9 0x01020304 17 17 (ap wrapAnswer (wrap-cases .acknowledges))
 
 pub carrier-is-no-longer : messageSize (unwrapping carrier) ≤ largestMessage
 carrier-is-no-longer = unwraps-no-longer carrier bytes-of-carrier
 
-pub wrapped-held-is-no-longer : wroteLength (answerOf (wrapping held 0x01020304 37)) ≤ leastSize + largestMessage
+pub wrapped-held-is-no-longer : wroteLength (wrapAnswer (wrapping held 0x01020304 37)) ≤ leastSize + largestMessage
 wrapped-held-is-no-longer = wraps-no-longer held 0x01020304 37 (literals held tt)
 
 -- ---- a capture of two frames, and one that is cut short

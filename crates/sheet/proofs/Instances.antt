@@ -22,42 +22,45 @@ use Rattle.envelope.specs.Flags.{badFlags}
 use Rattle.envelope.specs.Numbers.{twoAt}
 use Rattle.envelope.specs.Message.{beforeField, fieldNumber, message}
 use Rattle.envelope.specs.Qos.{joined, splitting, joining}
+use Rattle.envelope.specs.Refusals.{plainly, Gives}
 use Rattle.envelope.specs.Rewriting.{Rewrites}
 use Rattle.envelope.specs.RoundTrips.{ReadsAs, HandsOut}
 use Rattle.envelope.specs.Told.{Reads}
-use Rattle.envelope.specs.Writing.{Outcome, written, refused, writing, answerOf, bufferAfter, wrote, toldWriting, Writes, hasZero, badEnd, strayIntegrity}
+use Rattle.envelope.specs.Writing.{WriteOutcome, written, refused, writing, writeAnswer, afterWriting, wrote, toldWriting, Writes, hasZero, badEnd, strayIntegrity}
 use Rattle.envelope.specs.declared.reader.Fault.the-variants.{TooShort}
 use Rattle.envelope.specs.declared.reader.Reading.the-variants.{Accepted}
-use Rattle.envelope.specs.declared.rewriter.Rewriting.the-variants.{Unread}
+use Rattle.envelope.specs.declared.rewriter.Rewriting.the-variants as again
 use Rattle.envelope.specs.declared.writer.Writing.the-variants.{Written, Refused}
 use Rattle.envelope.specs.declared.writer.WriteFault.the-variants.{NoRoom}
 use Rattle.golden.specs.Checking.{counted, checking}
 use Rattle.golden.specs.Checking as check
-use Rattle.golden.specs.Comparing.{properBeginning, comparing, listAfter}
+use Rattle.golden.specs.Comparing.{isProperBeginning, comparing, afterComparing}
 use Rattle.golden.specs.Comparing as compare
 use Rattle.golden.specs.File.{badFile, recordAt, judgedAt}
 use Rattle.golden.specs.Finding.{finding}
 use Rattle.golden.specs.Finding as find
+use Rattle.golden.specs.Listing.{counting, entryAt}
 use Rattle.golden.specs.Making.{making, recordOf}
 use Rattle.golden.specs.Making as make
-use Rattle.golden.specs.Refusal.{plainly}
 use Rattle.golden.specs.Record.{storedWord, storedLength, badLength, allZero, judging, messageOf}
 use Rattle.golden.specs.Stepping.{end, stepAt, nextAfter, toldReached}
 use Rattle.golden.specs.Stepping as step
 use Rattle.golden.specs.Theorems.{AllGood, FirstBad, FirstNamed, no-file, MadeGood, InOrder}
-use Rattle.golden.specs.declared.comparer.Comparison.the-variants.{NoRecord}
-use Rattle.golden.specs.declared.maker.Making.the-variants.{Made, WrongBuffer}
+use Rattle.golden.specs.declared.comparer.Comparison.the-variants as comparison
+use Rattle.golden.specs.declared.maker.Making.the-variants.{Made}
+use Rattle.golden.specs.declared.maker.Making.the-variants as making
 use Rattle.golden.specs.Walking.{Walks}
-use Rattle.golden.specs.declared.record.RecordFault.the-variants.{BadLength}
+use Rattle.golden.specs.declared.refusal.Refusal.the-variants.{NotAFile, NoRecord, BadLength, WrongBuffer}
 use Rattle.golden.specs.declared.stepper.Reached.{Reached}
-use Rattle.golden.specs.declared.stepper.Reached.the-variants.{Message, Bad, End, NotAFile}
+use Rattle.golden.specs.declared.stepper.Reached.the-variants.{Message, End}
+use Rattle.golden.specs.declared.stepper.Reached.the-variants as reached
 use Rattle.golden.specs.declared.walker.Walk.{Walk}
 use Rattle.exports.specs.Envelopes.{ReadsForC}
 use Rattle.exports.specs.Word.{slots, word, unword}
 use Rattle.sheet.specs.Cases.{M, likeM, C, fieldsOfC}
 use Rattle.sheet.specs.Limits.{acrossTheEdge}
 use Rattle.sheet.proofs.Cases.{starred}
-use Rattle.sheet.proofs.Demand1.{a-word-tells-its-slots, a-refusal-writes-nothing, a-refused-rewrite-writes-nothing, refused-read-for-c-keeps, a-refused-comparison-keeps-the-list, a-refused-making-keeps-the-buffer}
+use Rattle.sheet.proofs.Demand1.{a-word-tells-its-slots, count-gives, check-gives, find-gives, step-gives, entry-gives, compare-gives, make-gives, a-refusal-writes-nothing, a-refused-rewrite-writes-nothing, refused-read-for-c-keeps, a-refused-comparison-keeps-the-list, a-refused-making-keeps-the-buffer}
 use Rattle.sheet.proofs.Demand2.{written-then-read, written-buffer-then-read, written-then-handed-out, read-then-written, handed-out-then-written, same-fields-same-bytes, qos-joins-what-was-split, qos-splits-what-was-joined, file-walks-in-order, other-file-stays, checked-are-good, good-are-checked, check-names-the-first, first-bad-is-named, finds-the-first, reason-settles-find, same-is-equal, made-is-good, never-a-beginning}
 use Rattle.sheet.proofs.Apart.{apart}
 use Rattle.sheet.proofs.Demand3.{four-bytes-show, thirty-two-bits-show, three-bits-show, bytes-at-the-edge-show, two-and-two-show, demand-3, demand-3-bits, golden-demand-3, three-bits-anywhere, golden-three-bits-anywhere, any-window, golden-any-window, middle-window, golden-middle-window}
@@ -79,10 +82,10 @@ M-written-then-read = written-then-read givenM 21 M writes-M
 pub M-written-buffer-then-read : ReadsAs M givenM
 M-written-buffer-then-read =
     written-buffer-then-read givenM (replicate 21 0) M (Written 21) 21
-    (ap answerOf (sym writes-M), ap (λ (o : Outcome). bufferAfter o (replicate 21 0)) (sym writes-M)) refl
+    (ap writeAnswer (sym writes-M), ap (λ (o : WriteOutcome). afterWriting o (replicate 21 0)) (sym writes-M)) refl
 
 writes-in-buffer : Writes givenM (replicate 21 0) (Written 21) M
-writes-in-buffer = (ap answerOf (sym writes-M), ap (λ (o : Outcome). bufferAfter o (replicate 21 0)) (sym writes-M))
+writes-in-buffer = (ap writeAnswer (sym writes-M), ap (λ (o : WriteOutcome). afterWriting o (replicate 21 0)) (sym writes-M))
 
 reads-M : Reads M (Accepted envelopeM)
 reads-M = sym (starred .a .0)
@@ -114,20 +117,20 @@ M-finds-no-room = refl
 pub no-room-writes-nothing : _≡_ {A = List ℕ} [] []
 no-room-writes-nothing =
     a-refusal-writes-nothing givenM [] [] (Refused NoRoom) 15
-    (ap answerOf (sym M-finds-no-room), ap (λ (o : Outcome). bufferAfter o []) (sym M-finds-no-room)) refl
+    (ap writeAnswer (sym M-finds-no-room), ap (λ (o : WriteOutcome). afterWriting o []) (sym M-finds-no-room)) refl
 
 pub no-record-keeps-the-list : _≡_ {A = List ℕ} (9 ∷ []) (9 ∷ [])
-unfolding comparing compare.answerOf listAfter badFile
-no-record-keeps-the-list = a-refused-comparison-keeps-the-list [] 0 M (9 ∷ []) (9 ∷ []) NoRecord (plainly 22) (refl, refl) refl
+unfolding comparing compare.compareAnswer afterComparing badFile
+no-record-keeps-the-list = a-refused-comparison-keeps-the-list [] 0 M (9 ∷ []) (9 ∷ []) (comparison.Refused NoRecord) (plainly 22) (refl, refl) refl
 
-made-in : (room : ℕ) → making M room ≡ cond (not (eqb room 512)) (make.declined (plainly 35)) make.made
+made-in : (room : ℕ) → making M room ≡ cond (not (eqb room 512)) (make.refused (plainly 35)) make.made
 unfolding making
 made-in room = rw (starred .a .0)
 
 pub wrong-buffer-keeps-it : _≡_ {A = List ℕ} (9 ∷ []) (9 ∷ [])
 wrong-buffer-keeps-it =
-    a-refused-making-keeps-the-buffer M (9 ∷ []) (9 ∷ []) WrongBuffer (plainly 35)
-    (sym (made-in 1), ap (λ (a : make.MakeAnswer). make.bufferAfter a M (9 ∷ [])) (sym (made-in 1))) refl
+    a-refused-making-keeps-the-buffer M (9 ∷ []) (9 ∷ []) (making.Refused WrongBuffer) (plainly 35)
+    (sym (made-in 1), ap (λ (a : make.MakeAnswer). make.afterMaking a M (9 ∷ [])) (sym (made-in 1))) refl
 
 -- ---- golden files: one that make wrote, the empty one, and one byte
 
@@ -137,7 +140,7 @@ file = recordOf M
 pub made-file-is-good : MadeGood M file
 made-file-is-good =
     made-is-good M (replicate 512 0) file Made
-    (sym (made-in 512), ap (λ (a : make.MakeAnswer). make.bufferAfter a M (replicate 512 0)) (sym (made-in 512))) refl
+    (sym (made-in 512), ap (λ (a : make.MakeAnswer). make.afterMaking a M (replicate 512 0)) (sym (made-in 512))) refl
 
 pub made-file-is-the-message : messageOf (recordAt file 0) ≡ M
 made-file-is-the-message = same-is-equal file 0 M (made-file-is-good .compares)
@@ -165,7 +168,7 @@ pub one-byte-is-not-searched : finding (7 ∷ []) (record { messageType = 6000; 
 unfolding badFile
 one-byte-is-not-searched = reason-settles-find (7 ∷ []) (record { messageType = 6000; number = 1 }) (find.refused (plainly 21) 0) (no-file refl)
 
-pub M-and-C-no-beginning : properBeginning M C ≡ false
+pub M-and-C-no-beginning : isProperBeginning M C ≡ false
 M-and-C-no-beginning = never-a-beginning M C (likeM absent 17 0) fieldsOfC (starred .a .0) (starred .kind-crc)
 
 -- ---- walks
@@ -209,7 +212,7 @@ walkAt lent (suc (suc k)) = record { file = lent; next = 2 }
 
 abbrev reachedAt : ℕ → Reached
 reachedAt zero = Message (record { place = 2; size = 21 })
-reachedAt (suc zero) = Bad BadLength
+reachedAt (suc zero) = reached.Refused BadLength
 reachedAt (suc (suc k)) = End
 
 walks-on : (lent : RefT (List ℕ)) → now lent ≡ twoRecords → (k : ℕ) → Walks (walkAt lent k) (reachedAt k) (walkAt lent (suc k))
@@ -221,11 +224,37 @@ pub two-records-walk : (lent : RefT (List ℕ)) → now lent ≡ twoRecords → 
 two-records-walk lent e =
     file-walks-in-order lent (walkAt lent) reachedAt (record { fresh = (refl, refl); steps = walks-on lent e }) (rw e whole-file)
 
-pub one-byte-stays : (lent : RefT (List ℕ)) → now lent ≡ 7 ∷ [] → (k : ℕ) → toldReached NotAFile ≡ step.refused (plainly 21)
+pub one-byte-stays : (lent : RefT (List ℕ)) → now lent ≡ 7 ∷ [] → (k : ℕ) → toldReached (reached.Refused NotAFile) ≡ step.refused (plainly 21)
 unfolding stepAt nextAfter badFile
 one-byte-stays lent e k =
-    other-file-stays lent (λ k. record { file = lent; next = 0 }) (λ k. NotAFile)
+    other-file-stays lent (λ k. record { file = lent; next = 0 }) (λ k. reached.Refused NotAFile)
     (record { fresh = (refl, refl); steps = λ k. (rw e, (refl, rw e)) }) (rw e) k
+
+-- ---- which refusals: one of each operation
+
+pub count-gave-21 : Gives (21 ∷ []) [] (plainly 21)
+unfolding counting badFile
+count-gave-21 = count-gives (7 ∷ []) (plainly 21) refl
+
+pub check-gave-23 : Gives (21 ∷ 23 ∷ 24 ∷ []) (25 ∷ []) (plainly 23)
+check-gave-23 = check-gives shortLength 0 (plainly 23) (bad-records .0)
+
+pub find-gave-21 : Gives (21 ∷ 23 ∷ 24 ∷ 27 ∷ []) (25 ∷ []) (plainly 21)
+find-gave-21 = find-gives (7 ∷ []) (record { messageType = 6000; number = 1 }) (plainly 21) 0 one-byte-is-not-searched
+
+pub step-gave-23 : Gives (21 ∷ 23 ∷ 24 ∷ []) (25 ∷ []) (plainly 23)
+step-gave-23 = step-gives twoRecords 1 (plainly 23) bad-step
+
+pub entry-gave-22 : Gives (21 ∷ 22 ∷ 23 ∷ 24 ∷ []) (25 ∷ []) (plainly 22)
+unfolding entryAt badFile
+entry-gave-22 = entry-gives [] 0 (plainly 22) refl
+
+pub compare-gave-22 : Gives (21 ∷ 22 ∷ 23 ∷ 24 ∷ 32 ∷ []) (25 ∷ 31 ∷ []) (plainly 22)
+unfolding comparing compare.compareAnswer badFile
+compare-gave-22 = compare-gives [] 0 M (plainly 22) refl
+
+pub make-gave-35 : Gives (33 ∷ 35 ∷ []) (34 ∷ []) (plainly 35)
+make-gave-35 = make-gives M 1 (plainly 35) (made-in 1)
 
 -- ---- demand 3, at C: both windows, and the sum's own laws
 
@@ -344,10 +373,10 @@ short-M = rw (starred .b) (refl, refl)
 pub the-fields-stayed : _≡_ {A = List ℕ} (9 ∷ []) (9 ∷ [])
 the-fields-stayed = refused-read-for-c-keeps (take 20 M) (9 ∷ []) 1 (9 ∷ []) short-M (λ e. apart 1 0 tt e)
 
-rewrites-short-M : Rewrites (take 20 M) (9 ∷ []) (Unread (record { fault = TooShort })) (9 ∷ [])
+rewrites-short-M : Rewrites (take 20 M) (9 ∷ []) (again.Refused (record { fault = TooShort })) (9 ∷ [])
 rewrites-short-M = rw (starred .b) (refl, refl)
 
 pub the-buffer-stayed : _≡_ {A = List ℕ} (9 ∷ []) (9 ∷ [])
 the-buffer-stayed =
-    a-refused-rewrite-writes-nothing (take 20 M) (9 ∷ []) (9 ∷ []) (Unread (record { fault = TooShort })) rewrites-short-M
+    a-refused-rewrite-writes-nothing (take 20 M) (9 ∷ []) (9 ∷ []) (again.Refused (record { fault = TooShort })) rewrites-short-M
     (λ n e. let z : _≡_ {A = ℕ} 0 1 = cc in omega arith)

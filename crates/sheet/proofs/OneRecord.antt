@@ -8,10 +8,10 @@ use Rattle.envelope.specs.Demand3.{DeclaresCrc}
 use Rattle.golden.specs.Checking.{counted, checking}
 use Rattle.golden.specs.File.{recordAt}
 use Rattle.golden.specs.Making.{recordOf}
-use Rattle.golden.specs.Record.{longestMessage, messageOf}
+use Rattle.golden.specs.Record.{messageRoom, messageOf}
 use Rattle.golden.proofs.MadeLaws.{checks, message-made}
 
-module _ (m : List ℕ) (d : DeclaresCrc m) (short : length m ≤ longestMessage) where
+module _ (m : List ℕ) (d : DeclaresCrc m) (short : length m ≤ messageRoom) where
   pub one-checks : checking (recordOf m) ≡ counted 1
   one-checks = checks m (d .fields) short (d .accepts)
 

@@ -21,11 +21,12 @@ use Rattle.envelope.specs.Message.{Given, beforeField, fieldNumber, message}
 use Rattle.envelope.specs.Numbers.{twoAt, threeAt, fourAt, TwoBytes, ThreeBytes, FourBytes, TwoDigits, FourDigits}
 use Rattle.envelope.specs.Qos.{QosFields, splitting, joining, Splits, Joins}
 use Rattle.envelope.specs.Reading.{readingWhole, reading}
-use Rattle.envelope.specs.Rewriting.{rewrote, unread, Rewrites}
+use Rattle.envelope.specs.Refusals.{RefusalNumbers, NumbersPlainly, NumbersPassingOn}
+use Rattle.envelope.specs.Rewriting.{rewrote, refused, Rewrites}
 use Rattle.envelope.specs.RoundTrips.{givenBy}
 use Rattle.envelope.specs.Sequence.{stepsOn, Distance, JudgesSequence}
 use Rattle.envelope.specs.Told.{NumbersFault, Slices, Reads, Holds}
-use Rattle.envelope.specs.Writing.{Outcome, written, writing, bufferAfter, hasZero, badEnd, strayIntegrity, NumbersWriteFault, Writes}
+use Rattle.envelope.specs.Writing.{WriteOutcome, written, writing, afterWriting, hasZero, badEnd, strayIntegrity, NumbersWriteFault, Writes}
 use Rattle.envelope.specs.declared.fields.Addressing.the-variants.{Absent, Present}
 use Rattle.envelope.specs.declared.fields.Envelope.{Envelope}
 use Rattle.envelope.specs.declared.fields.Header.{Header}
@@ -100,7 +101,7 @@ writes-M = refl
 
 pub write-does-not-touch-nothing : (r : Writing) → Writes givenM (replicate 21 0) r (replicate 21 0) → ⊥
 write-does-not-touch-nothing r kept =
-    apart 0 4 tt (ap (λ (s : List ℕ). getD s 0 0) (kept .1 ∙ ap (λ (o : Outcome). bufferAfter o (replicate 21 0)) writes-M))
+    apart 0 4 tt (ap (λ (s : List ℕ). getD s 0 0) (kept .1 ∙ ap (λ (o : WriteOutcome). afterWriting o (replicate 21 0)) writes-M))
 
 pub write-leaves-the-rest : (r : Writing) → Writes givenM (replicate 22 0) r (M ++ 9 ∷ []) → ⊥
 unfolding writing message beforeField fieldNumber badFlags badEnd hasZero strayIntegrity
@@ -108,7 +109,7 @@ write-leaves-the-rest r kept = apart 9 0 tt (ap (λ (s : List ℕ). getD s 21 0)
 
 pub write-puts-header-version-4 : (r : Writing) → Writes givenM (replicate 21 0) r (set M 0 3) → ⊥
 write-puts-header-version-4 r kept =
-    apart 3 4 tt (ap (λ (s : List ℕ). getD s 0 0) (kept .1 ∙ ap (λ (o : Outcome). bufferAfter o (replicate 21 0)) writes-M))
+    apart 3 4 tt (ap (λ (s : List ℕ). getD s 0 0) (kept .1 ∙ ap (λ (o : WriteOutcome). afterWriting o (replicate 21 0)) writes-M))
 
 -- no room, and the message's first bytes all the same
 pub write-writes-nothing-on-a-refusal : Writes givenM (replicate 20 0) (writer.Refused NoRoom) (take 20 M) → ⊥
@@ -124,7 +125,7 @@ rewrite-does-not-touch-nothing kept =
 pub rewrite-refuses-what-read-refuses : (exit : List ℕ) → Rewrites (take 20 M) (replicate 21 0) (again.Written 20) exit → ⊥
 rewrite-refuses-what-read-refuses exit kept = told (rw (starred .b) at (kept .0))
   where
-    told : rewrote 20 ≡ unread (record { number = 1 }) → ⊥
+    told : rewrote 20 ≡ refused (record { number = 1 }) → ⊥
     told e = let z : _≡_ {A = ℕ} 0 1 = cc in omega arith
 
 -- ---- Envelope::new: another body; another integrity
@@ -163,6 +164,20 @@ a-write-fault-keeps-its-number kept = apart 14 15 tt kept
 
 pub write-faults-have-different-numbers : NumbersWriteFault StrayIntegrity 11 → ⊥
 write-faults-have-different-numbers kept = apart 11 14 tt kept
+
+-- ---- the numbers of a refusal: another's; reading's invented or lost
+
+pub plainly-keeps-its-number : NumbersPlainly 21 (record { number = 22; reading = 0 }) → ⊥
+plainly-keeps-its-number kept = apart 22 21 tt (ap (λ (r : RefusalNumbers). r .number) kept)
+
+pub plainly-has-no-reading : NumbersPlainly 21 (record { number = 21; reading = 1 }) → ⊥
+plainly-has-no-reading kept = apart 1 0 tt (ap (λ (r : RefusalNumbers). r .reading) kept)
+
+pub passing-on-keeps-its-number : NumbersPassingOn 25 (record { fault = TooShort }) (record { number = 31; reading = 1 }) → ⊥
+passing-on-keeps-its-number kept = apart 31 25 tt (ap (λ (r : RefusalNumbers). r .number) kept)
+
+pub passing-on-tells-reading : NumbersPassingOn 25 (record { fault = WrongVersion }) (record { number = 25; reading = 0 }) → ⊥
+passing-on-tells-reading kept = apart 0 2 tt (ap (λ (r : RefusalNumbers). r .reading) kept)
 
 -- ---- numbers: the lowest byte first; a byte forgotten
 

@@ -8,19 +8,19 @@ use Rattle.envelope.specs.Fields.{Answer}
 use Rattle.envelope.specs.Lateness.{latenessOf}
 use Rattle.envelope.specs.Qos.{splitting, joining}
 use Rattle.envelope.specs.Sequence.{stepsOn}
-use Rattle.envelope.specs.Writing.{Outcome, answerOf, bufferAfter}
+use Rattle.envelope.specs.Writing.{WriteOutcome, writeAnswer, afterWriting}
 use Rattle.golden.specs.Checking.{CheckAnswer, checking}
-use Rattle.golden.specs.Comparing.{comparing, listAfter}
+use Rattle.golden.specs.Comparing.{comparing, afterComparing}
 use Rattle.golden.specs.Comparing as compare
 use Rattle.golden.specs.File.{badFile}
 use Rattle.golden.specs.Finding.{findFrom, finding}
 use Rattle.golden.specs.Listing.{counting, entryAt}
 use Rattle.golden.specs.Making.{making, recordOf}
 use Rattle.golden.specs.Stepping.{stepAt, nextAfter}
-use Rattle.feed.specs.Feeding.{State, refused as refusedStand, Outcome as FeedOutcome, ending}
+use Rattle.feed.specs.Feeding.{State, refused as refusedStand, FeedOutcome, ending}
 use Rattle.feed.specs.Verdict.{tooLong}
 use Rattle.frame.specs.Unwrapping.{UnwrapAnswer}
-use Rattle.frame.specs.Wrapping.{Outcome as FrameOutcome}
+use Rattle.frame.specs.Wrapping.{WrapOutcome}
 use Rattle.frame.specs.Wrapping as frame
 use Rattle.judge.specs.Rules.{leastRule, versionRule, addressesRule}
 use Rattle.exports.specs.Envelopes.{readSlots, fieldsAfter, ReadsForC, writeSlots, WritesForC, RewritesForC, qosFor, SplitsForC, JoinsForC, JudgesLatenessForC, JudgesSequenceForC}
@@ -55,12 +55,12 @@ read-for-c-keeps-the-fields-on-a-refusal kept =
 
 pub write-for-c-does-not-touch-nothing : (r : ℕ) → WritesForC givenM (replicate 21 0) r (replicate 21 0) → ⊥
 write-for-c-does-not-touch-nothing r kept =
-    apart 0 4 tt (ap (λ (s : List ℕ). getD s 0 0) (kept .1 ∙ ap (λ (o : Outcome). bufferAfter o (replicate 21 0)) writes-M))
+    apart 0 4 tt (ap (λ (s : List ℕ). getD s 0 0) (kept .1 ∙ ap (λ (o : WriteOutcome). afterWriting o (replicate 21 0)) writes-M))
 
 pub write-for-c-tells-the-length : (exit : List ℕ) → WritesForC givenM (replicate 21 0) 0 exit → ⊥
 unfolding word
 write-for-c-tells-the-length exit kept =
-    apart 0 (21 * 4294967296) tt (kept .0 ∙ ap (λ (o : Outcome). word (writeSlots (answerOf o))) writes-M)
+    apart 0 (21 * 4294967296) tt (kept .0 ∙ ap (λ (o : WriteOutcome). word (writeSlots (writeAnswer o))) writes-M)
 
 -- ---- rewrite: nothing touched; what reading refuses
 
@@ -161,11 +161,11 @@ step-for-c-keeps-the-part-at-the-end kept = apart 0 9 tt (ap (λ (s : List ℕ).
 -- ---- compare: a record that is not there told as same; a place listed on a refusal
 
 pub compare-for-c-refuses-no-record : (exit : List ℕ) → ComparesForC [] 0 M (9 ∷ []) 0 exit → ⊥
-unfolding comparing compare.answerOf badFile word
+unfolding comparing compare.compareAnswer badFile word
 compare-for-c-refuses-no-record exit kept = apart 0 22 tt (kept .0)
 
 pub compare-for-c-lists-nothing-on-a-refusal : ComparesForC [] 0 M (9 ∷ []) 22 (0 ∷ []) → ⊥
-unfolding comparing listAfter badFile
+unfolding comparing afterComparing badFile
 compare-for-c-lists-nothing-on-a-refusal kept = apart 0 9 tt (ap (λ (s : List ℕ). getD s 0 0) (kept .1))
 
 -- ---- make: a buffer that is too short told as made; a message that reading refuses
@@ -263,19 +263,19 @@ unwrap-for-c-keeps-the-commids-on-a-refusal fields after r kept =
 pub wrap-for-c-passes-reading-on : (exit : List ℕ) → WrapsForC (set held 0 5) 0x01020304 [] 67 exit → ⊥
 unfolding word
 wrap-for-c-passes-reading-on exit kept =
-    apart 67 (67 + 2 * 256) tt (kept .0 ∙ ap (λ (o : FrameOutcome). word (wrapSlots (frame.answerOf o))) (wrap-cases .unread-first))
+    apart 67 (67 + 2 * 256) tt (kept .0 ∙ ap (λ (o : WrapOutcome). word (wrapSlots (frame.wrapAnswer o))) (wrap-cases .message-refused-first))
 
 pub wrap-for-c-tells-the-frames-length : (exit : List ℕ) → WrapsForC held 0x01020304 (replicate 37 0) (word (sized 24)) exit → ⊥
 unfolding word
 wrap-for-c-tells-the-frames-length exit kept =
-    apart (24 * 4294967296) (37 * 4294967296) tt (kept .0 ∙ ap (λ (o : FrameOutcome). word (wrapSlots (frame.answerOf o))) (wrap-cases .just-room))
+    apart (24 * 4294967296) (37 * 4294967296) tt (kept .0 ∙ ap (λ (o : WrapOutcome). word (wrapSlots (frame.wrapAnswer o))) (wrap-cases .just-room))
 
 pub acknowledge-for-c-tells-the-length : (exit : List ℕ) → AcknowledgesForC 9 0x01020304 (replicate 17 0) 0 exit → ⊥
 unfolding word
 acknowledge-for-c-tells-the-length exit kept =
-    apart 0 (17 * 4294967296) tt (kept .0 ∙ ap (λ (o : FrameOutcome). word (wrapSlots (frame.answerOf o))) (wrap-cases .acknowledges))
+    apart 0 (17 * 4294967296) tt (kept .0 ∙ ap (λ (o : WrapOutcome). word (wrapSlots (frame.wrapAnswer o))) (wrap-cases .acknowledges))
 
 pub acknowledge-for-c-refuses-16-bytes : (exit : List ℕ) → AcknowledgesForC 9 0x01020304 (replicate 16 0) (word (sized 17)) exit → ⊥
 unfolding word
 acknowledge-for-c-refuses-16-bytes exit kept =
-    apart (17 * 4294967296) 68 tt (kept .0 ∙ ap (λ (o : FrameOutcome). word (wrapSlots (frame.answerOf o))) (wrap-cases .no-room-acknowledged))
+    apart (17 * 4294967296) 68 tt (kept .0 ∙ ap (λ (o : WrapOutcome). word (wrapSlots (frame.wrapAnswer o))) (wrap-cases .no-room-acknowledged))

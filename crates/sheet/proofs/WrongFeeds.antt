@@ -13,15 +13,15 @@ use Rattle.envelope.specs.declared.announcer.Announcement.the-variants as code
 use Rattle.envelope.specs.declared.fields.Envelope.{Envelope}
 use Rattle.envelope.specs.declared.reader.Fault.the-variants.{BadVariableSize}
 use Rattle.feed.specs.Cutting.{Came, Calls}
-use Rattle.feed.specs.Feeding.{Stand, inside, whole, refused, State, Finding, nothing, message, refusal, Outcome}
+use Rattle.feed.specs.Feeding.{Stand, inside, whole, refused, State, Finding, nothing, message, FeedOutcome}
 use Rattle.feed.specs.Messages.{none, also}
-use Rattle.feed.specs.Told.{toldStanding, toldFound, toldTaken, NumbersFault, Fresh, Takes, Ends, Advances, Closes, Holds}
+use Rattle.feed.specs.Told.{toldStanding, toldFound, toldTaken, NumbersFeedRefusal, Fresh, Takes, Ends, Advances, Closes, Holds}
 use Rattle.feed.specs.Verdict.{numberOf}
-use Rattle.feed.specs.declared.fault.Fault.the-variants.{Unread, TooLong, Cut}
+use Rattle.feed.specs.declared.refusal.Refusal.the-variants.{MessageRefused, TooLong, Cut}
 use Rattle.feed.specs.declared.feeder.Ended.{Ended}
 use Rattle.feed.specs.declared.feeder.Feed.{Feed}
 use Rattle.feed.specs.declared.feeder.Taken.{Taken}
-use Rattle.feed.specs.declared.step.Found.the-variants.{Nothing, Message, Refused as Barred}
+use Rattle.feed.specs.declared.step.Found.the-variants.{Nothing, Message, Refused as FoundRefused}
 use Rattle.feed.specs.declared.step.Standing.{Standing}
 use Rattle.feed.specs.declared.step.Standing.the-variants.{Inside, Whole, Refused}
 use Rattle.feed.specs.declared.step.Step.{Step}
@@ -37,23 +37,23 @@ use Rattle.sheet.proofs.OneFeed.{newFeed, new-between, envelopeM, fits}
 kindOf : Finding → ℕ
 kindOf nothing = 0
 kindOf (message n f) = 1
-kindOf (refusal f) = 2
+kindOf (refused f) = 2
 
 valueOf : Finding → ℕ
 valueOf nothing = 0
 valueOf (message n f) = n
-valueOf (refusal f) = numberOf f
+valueOf (refused f) = numberOf f
 
 standOf : Stand → ℕ
 standOf inside = 0
 standOf whole = 1
 standOf (refused f) = numberOf f
 
-usedIn : (t : Taken) (o : Outcome) → toldTaken t ≡ o → t .used ≡ o .used
-usedIn t o e = ap (λ (p : Outcome). p .used) e
+usedIn : (t : Taken) (o : FeedOutcome) → toldTaken t ≡ o → t .used ≡ o .used
+usedIn t o e = ap (λ (p : FeedOutcome). p .used) e
 
-foundIn : (t : Taken) (o : Outcome) → toldTaken t ≡ o → toldFound (t .found) ≡ o .finding
-foundIn t o e = ap (λ (p : Outcome). p .finding) e
+foundIn : (t : Taken) (o : FeedOutcome) → toldTaken t ≡ o → toldFound (t .found) ≡ o .finding
+foundIn t o e = ap (λ (p : FeedOutcome). p .finding) e
 
 -- ---- five wrong feeds
 
@@ -69,7 +69,7 @@ pub a-feed-stops-at-the-wrong-sum : (t : Taken) → t .used ≡ 24 → Takes new
 a-feed-stops-at-the-wrong-sum t one kept = apart 24 23 tt (sym one ∙ usedIn t _ (kept ∙ feed-cases .no-7-crc))
 
 -- one that tells 51 before 4
-pub a-feed-tells-4-before-51 : (t : Taken) → t .found ≡ Barred TooLong → Takes newFeed (set announcing511 16 5) t → ⊥
+pub a-feed-tells-4-before-51 : (t : Taken) → t .found ≡ FoundRefused TooLong → Takes newFeed (set announcing511 16 5) t → ⊥
 unfolding valueOf
 a-feed-tells-4-before-51 t wrong kept =
     apart 51 4 tt (ap valueOf (ap toldFound (sym wrong) ∙ foundIn t _ (kept ∙ feed-cases .no-4-first)))
@@ -106,12 +106,12 @@ unfolding kindOf
 take-does-not-find-early t n e wrong kept = apart 1 0 tt (ap kindOf (ap toldFound (sym wrong) ∙ foundIn t _ (kept ∙ feed-cases .missing-crc)))
 
 pub take-counts-what-is-in : (t : Taken) → t .feed .count ≡ 19 → Takes newFeed (take 20 M) t → ⊥
-take-counts-what-is-in t wrong kept = apart 19 20 tt (sym wrong ∙ ap (λ (o : Outcome). o .state .count) (kept ∙ feed-cases .missing))
+take-counts-what-is-in t wrong kept = apart 19 20 tt (sym wrong ∙ ap (λ (o : FeedOutcome). o .state .count) (kept ∙ feed-cases .missing))
 
 flagsIn : Finding → ℕ
 flagsIn nothing = 0
 flagsIn (message n f) = f .header .flags
-flagsIn (refusal f) = 0
+flagsIn (refused f) = 0
 
 pub take-hands-out-its-envelope : (t : Taken) → t .found ≡ Message 23 envelopeM → Takes newFeed (C ++ M) t → ⊥
 unfolding flagsIn
@@ -135,38 +135,38 @@ feedWithin = record { kept = heldBy (take 5 C) inside .kept; count = 5; standing
 pub end-inside-is-refused : (e : Ended) → e .found ≡ Nothing → Ends feedWithin e → ⊥
 unfolding kindOf
 end-inside-is-refused e wrong kept =
-    apart 0 2 tt (ap kindOf (ap toldFound (sym wrong) ∙ ap (λ (o : Outcome). o .finding) (kept ∙ feed-cases .end-within)))
+    apart 0 2 tt (ap kindOf (ap toldFound (sym wrong) ∙ ap (λ (o : FeedOutcome). o .finding) (kept ∙ feed-cases .end-within)))
 
-pub end-between-is-no-refusal : (e : Ended) → e .found ≡ Barred Cut → Ends feedBetween e → ⊥
+pub end-between-is-no-refusal : (e : Ended) → e .found ≡ FoundRefused Cut → Ends feedBetween e → ⊥
 unfolding kindOf
 end-between-is-no-refusal e wrong kept =
-    apart 2 0 tt (ap kindOf (ap toldFound (sym wrong) ∙ ap (λ (o : Outcome). o .finding) (kept ∙ feed-cases .end-after)))
+    apart 2 0 tt (ap kindOf (ap toldFound (sym wrong) ∙ ap (λ (o : FeedOutcome). o .finding) (kept ∙ feed-cases .end-after)))
 
-pub end-keeps-its-refusal : Ends feedWithin (record { feed = feedWithin; found = Barred Cut }) → ⊥
+pub end-keeps-its-refusal : Ends feedWithin (record { feed = feedWithin; found = FoundRefused Cut }) → ⊥
 unfolding standOf
-end-keeps-its-refusal kept = apart 0 52 tt (ap (λ (o : Outcome). standOf (o .state .stand)) (kept ∙ feed-cases .end-within))
+end-keeps-its-refusal kept = apart 0 52 tt (ap (λ (o : FeedOutcome). standOf (o .state .stand)) (kept ∙ feed-cases .end-within))
 
 -- ---- advance: the bytes lent not touched; the rest of the room wiped
 
 pub advance-does-not-touch-nothing : (r : Step) → Advances (newFeed .kept) 0 Inside (take 20 M) r (newFeed .kept) → ⊥
 advance-does-not-touch-nothing r kept =
-    apart 0 4 tt (ap (λ (o : Outcome). getD (o .state .kept) 0 0) (kept ∙ feed-cases .missing))
+    apart 0 4 tt (ap (λ (o : FeedOutcome). getD (o .state .kept) 0 0) (kept ∙ feed-cases .missing))
 
 pub advance-keeps-the-rest-of-the-room : (r : Step) (exit : List ℕ) → getD exit 22 0 ≡ 0 → Advances (heldBy C whole .kept) 23 Whole (9 ∷ []) r exit → ⊥
 advance-keeps-the-rest-of-the-room r exit wrong kept =
-    apart 0 0x95 tt (sym wrong ∙ ap (λ (o : Outcome). getD (o .state .kept) 22 0) (kept ∙ feed-cases .next-message))
+    apart 0 0x95 tt (sym wrong ∙ ap (λ (o : FeedOutcome). getD (o .state .kept) 22 0) (kept ∙ feed-cases .next-message))
 
 -- ---- close: the end forgets what stands; the count is lost
 
-pub close-repeats-a-refusal : (r : Step) → r .found ≡ Barred Cut → Closes 17 (Refused TooLong) r → ⊥
+pub close-repeats-a-refusal : (r : Step) → r .found ≡ FoundRefused Cut → Closes 17 (Refused TooLong) r → ⊥
 unfolding valueOf
 close-repeats-a-refusal r wrong kept =
     apart 52 51 tt
-    (ap valueOf (ap toldFound (sym wrong) ∙ ap (λ (o : Outcome). o .finding) (kept (heldBy (take 17 announcing511) whole .kept) ∙ feed-cases .end-refused)))
+    (ap valueOf (ap toldFound (sym wrong) ∙ ap (λ (o : FeedOutcome). o .finding) (kept (heldBy (take 17 announcing511) whole .kept) ∙ feed-cases .end-refused)))
 
 pub close-keeps-the-count : (r : Step) → r .count ≡ 0 → Closes 23 Whole r → ⊥
 close-keeps-the-count r wrong kept =
-    apart 0 23 tt (sym wrong ∙ ap (λ (o : Outcome). o .state .count) (kept (heldBy C whole .kept) ∙ feed-cases .end-after))
+    apart 0 23 tt (sym wrong ∙ ap (λ (o : FeedOutcome). o .state .count) (kept (heldBy C whole .kept) ∙ feed-cases .end-after))
 
 -- ---- held: half a message; none where there is one
 
@@ -178,11 +178,11 @@ held-is-the-message kept = apart 0 21 tt (ap length kept)
 
 -- ---- the numbers of refusals: another's; one for all that reading gives
 
-pub a-feed-fault-keeps-its-number : NumbersFault TooLong 52 → ⊥
-a-feed-fault-keeps-its-number kept = apart 52 51 tt kept
+pub a-feed-refusal-keeps-its-number : NumbersFeedRefusal TooLong 52 → ⊥
+a-feed-refusal-keeps-its-number kept = apart 52 51 tt kept
 
-pub a-feed-fault-passes-reading-on : NumbersFault (Unread (record { fault = BadVariableSize })) 2 → ⊥
-a-feed-fault-passes-reading-on kept = apart 2 4 tt kept
+pub a-feed-refusal-passes-reading-on : NumbersFeedRefusal (MessageRefused (record { fault = BadVariableSize })) 2 → ⊥
+a-feed-refusal-passes-reading-on kept = apart 2 4 tt kept
 
 -- ---- announce: a length before 17 bytes are there; a broken heading passed over; another length
 

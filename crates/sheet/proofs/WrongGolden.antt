@@ -10,14 +10,15 @@ use Rattle.envelope.specs.Fields.{absent}
 use Rattle.envelope.specs.Numbers.{twoAt}
 use Rattle.envelope.specs.declared.reader.Fault.the-variants.{TooShort}
 use Rattle.golden.specs.Checking.{counted, checking, Checks}
-use Rattle.golden.specs.Comparing.{Outcome, positions, same, different, listAfter, comparing, answerOf, Compares}
+use Rattle.golden.specs.Comparing.{CompareOutcome, positions, same, different, afterComparing, comparing, compareAnswer, Compares}
 use Rattle.golden.specs.File.{badFile, judgedAt}
 use Rattle.golden.specs.Finding.{found, findFrom, finding, Finds}
 use Rattle.golden.specs.Listing.{counting, entryAt, Counts, Enters}
-use Rattle.golden.specs.Making.{making, recordOf, bufferAfter, MakeAnswer, made, declined, Makes}
+use Rattle.golden.specs.Making.{making, recordOf, afterMaking, MakeAnswer, made, refused, Makes}
 use Rattle.golden.specs.Positions.{noted}
 use Rattle.golden.specs.Record.{storedWord, storedLength, badLength, judging}
-use Rattle.golden.specs.Refusal.{Refused, plainly, NumbersRecordFault}
+use Rattle.envelope.specs.Refusals.{Refused, plainly, RefusalNumbers, numbersOf}
+use Rattle.golden.specs.Refusal.{NumbersGoldenRefusal}
 use Rattle.golden.specs.Stepping.{stepAt, nextAfter, Steps}
 use Rattle.golden.specs.Theorems.{openedNumber}
 use Rattle.golden.specs.Walking.{Begins, Walks}
@@ -28,8 +29,8 @@ use Rattle.golden.specs.declared.finder.Name.{Name}
 use Rattle.golden.specs.declared.lister.Counting.the-variants as counting
 use Rattle.golden.specs.declared.lister.Entry.the-variants as entry
 use Rattle.golden.specs.declared.maker.Making.the-variants as making
-use Rattle.golden.specs.declared.record.RecordFault.{RecordFault}
-use Rattle.golden.specs.declared.record.RecordFault.the-variants.{BadLength, Unread}
+use Rattle.golden.specs.declared.refusal.Refusal.{Refusal}
+use Rattle.golden.specs.declared.refusal.Refusal.the-variants.{NotAFile, NoRecord, BadLength, RecordRefused, NotFound}
 use Rattle.golden.specs.declared.stepper.Reached.{Reached}
 use Rattle.golden.specs.declared.stepper.Reached.the-variants.{End}
 use Rattle.golden.proofs.MadeLaws.{checks, compared, compares, finds}
@@ -45,7 +46,7 @@ checks-M = checks M (likeM absent 17 0) (omega arith) (starred .a .0)
 finds-M : finding (recordOf M) (record { messageType = 6000; number = 1 }) ≡ found 0 1
 finds-M = finds M (likeM absent 17 0) (omega arith) (starred .a .0)
 
-compares-M : answerOf (comparing (recordOf M) 0 M) ≡ same
+compares-M : compareAnswer (comparing (recordOf M) 0 M) ≡ same
 compares-M = compares M (likeM absent 17 0) (omega arith) (starred .a .0)
 
 compared-M : comparing (recordOf M) 0 M ≡ positions []
@@ -66,7 +67,7 @@ pub find-invents-no-record : (name : Name) → Finds [] name (finding.Found 0 1)
 unfolding finding findFrom badFile
 find-invents-no-record name kept = let z : _≡_ {A = ℕ} 0 1 = cc in omega arith
 
-pub find-invents-no-opened-record : (name : Name) → Finds [] name (finding.Missing 1) → ⊥
+pub find-invents-no-opened-record : (name : Name) → Finds [] name (finding.Refused NotFound 1) → ⊥
 unfolding finding findFrom badFile
 find-invents-no-opened-record name kept = let z : _≡_ {A = ℕ} 1 0 = cc in omega arith
 
@@ -79,9 +80,9 @@ find-stops-at-a-bad-record kept = let z : _≡_ {A = ℕ} 0 1 = cc in omega arit
 pub find-opens-no-more-than-it-must : Finds (recordOf M) (record { «message_type» = 6000; number = 1 }) (finding.Found 0 2) → ⊥
 find-opens-no-more-than-it-must kept = apart 2 1 tt (ap openedNumber (kept ∙ finds-M))
 
-pub find-counts-the-bad-record : (fault : RecordFault) → Finds (replicate 512 0) (record { «message_type» = 6000; number = 1 }) (finding.Bad fault 0) → ⊥
+pub find-counts-the-bad-record : (refusal : Refusal) → Finds (replicate 512 0) (record { «message_type» = 6000; number = 1 }) (finding.Refused refusal 0) → ⊥
 unfolding finding findFrom badFile judgedAt judging badLength storedLength storedWord twoAt
-find-counts-the-bad-record fault kept = apart 0 1 tt (ap openedNumber kept)
+find-counts-the-bad-record refusal kept = apart 0 1 tt (ap openedNumber kept)
 
 -- ---- step and walk: on past the end; the end of what is no file; a walk that begins later, or on another file; one that stays
 
@@ -119,15 +120,15 @@ pub count-refuses-one-byte : Counts (7 ∷ []) (counting.Count 0) → ⊥
 unfolding counting badFile
 count-refuses-one-byte kept = let z : _≡_ {A = ℕ} 0 1 = cc in omega arith
 
-pub count-takes-the-empty-file : Counts [] counting.NotAFile → ⊥
+pub count-takes-the-empty-file : Counts [] (counting.Refused NotAFile) → ⊥
 unfolding counting badFile
 count-takes-the-empty-file kept = let z : _≡_ {A = ℕ} 0 1 = cc in omega arith
 
-pub entry-refuses-the-file-first : Enters (7 ∷ []) 9 entry.NoRecord → ⊥
+pub entry-refuses-the-file-first : Enters (7 ∷ []) 9 (entry.Refused NoRecord) → ⊥
 unfolding entryAt badFile
 entry-refuses-the-file-first kept =
     let same : _≡_ {A = Refused} (plainly 22) (plainly 21) = cc in
-    apart 22 21 tt (ap (λ (r : Refused). r .number) same)
+    apart 22 21 tt (ap (λ (r : Refused). numbersOf r .number) same)
 
 pub entry-invents-no-line : Enters [] 0 (entry.Good 0 0 0) → ⊥
 unfolding entryAt badFile
@@ -142,13 +143,13 @@ compare-invents-no-difference entry exit kept =
     omega arith
 
 pub compare-keeps-the-places-beyond : Compares (recordOf M) 0 M (9 ∷ []) comparison.Same (0 ∷ []) → ⊥
-unfolding listAfter noted
+unfolding afterComparing noted
 compare-keeps-the-places-beyond kept =
     apart 0 9 tt
-    (ap (λ (s : List ℕ). getD s 0 0) (kept .1 ∙ ap (λ (o : Outcome). listAfter o (9 ∷ [])) (compared-M)))
+    (ap (λ (s : List ℕ). getD s 0 0) (kept .1 ∙ ap (λ (o : CompareOutcome). afterComparing o (9 ∷ [])) (compared-M)))
 
-pub compare-lists-nothing-on-a-refusal : Compares [] 0 M (9 ∷ []) comparison.NoRecord (0 ∷ []) → ⊥
-unfolding comparing listAfter badFile
+pub compare-lists-nothing-on-a-refusal : Compares [] 0 M (9 ∷ []) (comparison.Refused NoRecord) (0 ∷ []) → ⊥
+unfolding comparing afterComparing badFile
 compare-lists-nothing-on-a-refusal kept = apart 0 9 tt (ap (λ (s : List ℕ). getD s 0 0) (kept .1))
 
 -- ---- make: into any buffer; nothing touched; a byte behind the message
@@ -157,7 +158,7 @@ pub make-refuses-a-short-buffer : (exit : List ℕ) → Makes M (replicate 511 0
 unfolding making
 make-refuses-a-short-buffer exit kept = told (rw (starred .a .0) at (kept .0))
   where
-    told : made ≡ declined (plainly 35) → ⊥
+    told : made ≡ refused (plainly 35) → ⊥
     told e = let z : _≡_ {A = ℕ} 0 1 = cc in omega arith
 
 makes-M : making M 512 ≡ made
@@ -167,17 +168,17 @@ makes-M = rw (starred .a .0) refl
 pub make-does-not-touch-nothing : Makes M (replicate 512 0) making.Made (replicate 512 0) → ⊥
 unfolding recordOf
 make-does-not-touch-nothing kept =
-    apart 0 21 tt (ap (λ (s : List ℕ). getD s 1 0) (kept .1 ∙ ap (λ (a : MakeAnswer). bufferAfter a M (replicate 512 0)) makes-M))
+    apart 0 21 tt (ap (λ (s : List ℕ). getD s 1 0) (kept .1 ∙ ap (λ (a : MakeAnswer). afterMaking a M (replicate 512 0)) makes-M))
 
 pub make-puts-zeros-behind : Makes M (replicate 512 0) making.Made (set (recordOf M) 511 1) → ⊥
 unfolding recordOf
 make-puts-zeros-behind kept =
-    apart 1 0 tt (ap (λ (s : List ℕ). getD s 511 0) (kept .1 ∙ ap (λ (a : MakeAnswer). bufferAfter a M (replicate 512 0)) makes-M))
+    apart 1 0 tt (ap (λ (s : List ℕ). getD s 511 0) (kept .1 ∙ ap (λ (a : MakeAnswer). afterMaking a M (replicate 512 0)) makes-M))
 
--- ---- the numbers of a record's fault: another rule's; reading's own left out
+-- ---- the numbers of a refusal: another rule's; reading's own left out
 
-pub a-record-fault-keeps-its-number : NumbersRecordFault BadLength (record { number = 24; reading = 0 }) → ⊥
-a-record-fault-keeps-its-number kept = apart 24 23 tt (ap (λ (r : Refused). r .number) kept)
+pub a-golden-refusal-keeps-its-number : NumbersGoldenRefusal BadLength (record { number = 24; reading = 0 }) → ⊥
+a-golden-refusal-keeps-its-number kept = apart 24 23 tt (ap (λ (r : RefusalNumbers). r .number) kept)
 
-pub a-record-fault-passes-reading-on : NumbersRecordFault (Unread (record { fault = TooShort })) (record { number = 25; reading = 0 }) → ⊥
-a-record-fault-passes-reading-on kept = apart 0 1 tt (ap (λ (r : Refused). r .reading) kept)
+pub a-golden-refusal-passes-reading-on : NumbersGoldenRefusal (RecordRefused (record { fault = TooShort })) (record { number = 25; reading = 0 }) → ⊥
+a-golden-refusal-passes-reading-on kept = apart 0 1 tt (ap (λ (r : RefusalNumbers). r .reading) kept)

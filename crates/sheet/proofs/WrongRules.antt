@@ -15,20 +15,20 @@ use Rattle.envelope.specs.Message.{Given, unaddressed, beforeField, fieldNumber
 use Rattle.envelope.specs.Numbers.{twoAt}
 use Rattle.envelope.specs.Reading.{reading}
 use Rattle.envelope.specs.Told.{Reads}
-use Rattle.envelope.specs.Writing.{refused, writing, wrote, barred, answerOf, badEnd, hasZero, strayIntegrity, Writes}
+use Rattle.envelope.specs.Writing.{refused, writing, wrote, writeAnswer, badEnd, hasZero, strayIntegrity, Writes}
 use Rattle.envelope.specs.declared.fields.Envelope.{Envelope}
 use Rattle.envelope.specs.declared.reader.Fault.the-variants.{WrongLength}
 use Rattle.envelope.specs.declared.reader.Reading.the-variants.{Accepted, Refused as Unread}
 use Rattle.envelope.specs.declared.writer.Writing.the-variants.{Written}
 use Rattle.golden.specs.Checking.{counted, checkFrom, checking, Checks}
 use Rattle.golden.specs.Checking as check
-use Rattle.golden.specs.Comparing.{comparing, listAfter, Compares}
+use Rattle.golden.specs.Comparing.{comparing, afterComparing, Compares}
 use Rattle.golden.specs.Comparing as compare
 use Rattle.golden.specs.File.{badFile, judgedAt}
 use Rattle.golden.specs.Making.{made, making, recordOf, Makes}
 use Rattle.golden.specs.Making as make
-use Rattle.golden.specs.Record.{longestMessage, storedWord, storedLength, allZero, badLength, judging}
-use Rattle.golden.specs.Refusal.{Refused, plainly, passingOn}
+use Rattle.golden.specs.Record.{messageRoom, storedWord, storedLength, allZero, badLength, judging}
+use Rattle.envelope.specs.Refusals.{Refused, plainly, passingOn}
 use Rattle.golden.specs.declared.checker.Checking.the-variants.{Count}
 use Rattle.golden.specs.declared.comparer.Comparison.{Comparison}
 use Rattle.golden.specs.declared.comparer.Comparison.the-variants.{Same}
@@ -88,11 +88,11 @@ read-does-not-move-the-body e other kept = apart 21 17 tt (sym other ∙ ap body
 
 -- ---- writing: M as it is given, but for one thing
 
-wrote-not-barred : (n k : ℕ) → wrote n ≡ barred k → ⊥
-wrote-not-barred n k e = let z : _≡_ {A = ℕ} 0 1 = cc in omega arith
+wrote-not-refused : (n k : ℕ) → wrote n ≡ refused k → ⊥
+wrote-not-refused n k e = let z : _≡_ {A = ℕ} 0 1 = cc in omega arith
 
-passed-over : (g : Given) (entry : List ℕ) (n k : ℕ) → writing g (length entry) ≡ refused k → wrote n ≡ answerOf (writing g (length entry)) → ⊥
-passed-over g entry n k refuses kept = wrote-not-barred n k (kept ∙ ap answerOf refuses)
+passed-over : (g : Given) (entry : List ℕ) (n k : ℕ) → writing g (length entry) ≡ refused k → wrote n ≡ writeAnswer (writing g (length entry)) → ⊥
+passed-over g entry n k refuses kept = wrote-not-refused n k (kept ∙ ap writeAnswer refuses)
 
 abbrev like : (flags : ℕ) (source body : List ℕ) (application : ℕ) → Given
 like flags source body application =
@@ -155,7 +155,7 @@ otherVersion = 0 ∷ 21 ∷ set M 0 3 ++ replicate 489 0
 
 pub bad-records :
     (checking shortLength ≡ check.refused 0 (plainly 23))
-    × ((checking byteBehind ≡ check.refused 0 (plainly 24)) × (checking otherVersion ≡ check.refused 0 (passingOn 25 2)))
+    × ((checking byteBehind ≡ check.refused 0 (plainly 24)) × (checking otherVersion ≡ check.refused 0 (passingOn 25 (record { number = 2 }))))
 unfolding checking checkFrom badFile judgedAt judging badLength storedLength storedWord allZero twoAt reading heading
 bad-records = (refl, (refl, refl))
 
@@ -169,36 +169,36 @@ pub check-does-not-pass-over-24 : (n : ℕ) → Checks byteBehind (Count n) → 
 check-does-not-pass-over-24 n kept = counted-not-refused n 0 (plainly 24) (kept ∙ bad-records .1 .0)
 
 pub check-does-not-pass-over-25 : (n : ℕ) → Checks otherVersion (Count n) → ⊥
-check-does-not-pass-over-25 n kept = counted-not-refused n 0 (passingOn 25 2) (kept ∙ bad-records .1 .1)
+check-does-not-pass-over-25 n kept = counted-not-refused n 0 (passingOn 25 (record { number = 2 })) (kept ∙ bad-records .1 .1)
 
 -- ---- compare: a radio's message that reading refuses
 
-unread-radio : comparing (recordOf M) 0 (take 20 M) ≡ compare.declined (passingOn 31 1)
+refused-radio : comparing (recordOf M) 0 (take 20 M) ≡ compare.refused (passingOn 31 (record { number = 1 }))
 unfolding comparing badFile judgedAt judging badLength storedLength storedWord allZero recordOf twoAt
-unread-radio = rw (starred .a .0, starred .b)
+refused-radio = rw (starred .a .0, starred .b)
 
 pub compare-does-not-pass-over-31 : (entry exit : List ℕ) → Compares (recordOf M) 0 (take 20 M) entry Same exit → ⊥
-unfolding compare.answerOf
+unfolding compare.compareAnswer
 compare-does-not-pass-over-31 entry exit kept =
-    let told : compare.same ≡ compare.unlike (passingOn 31 1) = kept .0 ∙ ap compare.answerOf unread-radio in
+    let told : compare.same ≡ compare.refused (passingOn 31 (record { number = 1 })) = kept .0 ∙ ap compare.compareAnswer refused-radio in
     let z : _≡_ {A = ℕ} 0 1 = cc in
     omega arith
 
 pub compare-writes-nothing-at-31 : (r : Comparison) → Compares (recordOf M) 0 (take 20 M) (9 ∷ []) r (0 ∷ []) → ⊥
-unfolding listAfter
+unfolding afterComparing
 compare-writes-nothing-at-31 r kept =
-    apart 0 9 tt (ap (λ (s : List ℕ). getD s 0 0) (kept .1 ∙ ap (λ (o : compare.Outcome). listAfter o (9 ∷ [])) unread-radio))
+    apart 0 9 tt (ap (λ (s : List ℕ). getD s 0 0) (kept .1 ∙ ap (λ (o : compare.CompareOutcome). afterComparing o (9 ∷ [])) refused-radio))
 
 -- ---- make: any message of 511 bytes, and one that reading refuses
 
-made-not-declined : (r : Refused) → made ≡ make.declined r → ⊥
-made-not-declined r e = let z : _≡_ {A = ℕ} 0 1 = cc in omega arith
+made-not-refused : (r : Refused) → made ≡ make.refused r → ⊥
+made-not-refused r e = let z : _≡_ {A = ℕ} 0 1 = cc in omega arith
 
 pub make-does-not-pass-over-33 : (m entry exit : List ℕ) → length m ≡ 511 → Makes m entry Made exit → ⊥
 unfolding making
 make-does-not-pass-over-33 m entry exit e kept =
-    made-not-declined (plainly 33) (rw (lt-ltb longestMessage (length m) (omega (arith, e))) at (kept .0))
+    made-not-refused (plainly 33) (rw (lt-ltb messageRoom (length m) (omega (arith, e))) at (kept .0))
 
 pub make-does-not-pass-over-34 : (entry exit : List ℕ) → Makes (take 20 M) entry Made exit → ⊥
 unfolding making
-make-does-not-pass-over-34 entry exit kept = made-not-declined (passingOn 34 1) (rw (starred .b) at (kept .0))
+make-does-not-pass-over-34 entry exit kept = made-not-refused (passingOn 34 (record { number = 1 })) (rw (starred .b) at (kept .0))

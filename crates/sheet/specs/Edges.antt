@@ -16,14 +16,14 @@ use Rattle.envelope.specs.Qos as qos
 use Rattle.envelope.specs.Reading.{reading}
 use Rattle.envelope.specs.Writing.{badEnd, bodyTooLong}
 use Rattle.golden.specs.Checking.{counted, checking}
-use Rattle.golden.specs.Comparing.{Outcome, positions, declined, comparing, listAfter}
+use Rattle.golden.specs.Comparing.{CompareOutcome, positions, refused, comparing, afterComparing}
 use Rattle.golden.specs.File.{badFile, countOf, notThere}
 use Rattle.golden.specs.Finding.{NameFields, finding}
 use Rattle.golden.specs.Finding as find
 use Rattle.golden.specs.Listing.{counting}
 use Rattle.golden.specs.Listing as listing
 use Rattle.golden.specs.Record.{badLength}
-use Rattle.golden.specs.Refusal.{plainly}
+use Rattle.envelope.specs.Refusals.{plainly}
 use Rattle.golden.specs.Stepping.{end, stepAt}
 
 -- a file of 128 records, the most: the last is record 127
@@ -39,7 +39,7 @@ pub record EmptyFile : Type 0 where
   pub counts : counting [] ≡ listing.counted 0
   pub finds : (name : NameFields) → finding [] name ≡ find.refused (plainly 27) 0
   pub steps : (n : ℕ) → stepAt [] n ≡ end
-  pub compares : (n : ℕ) (radio : List ℕ) → comparing [] n radio ≡ declined (plainly 22)
+  pub compares : (n : ℕ) (radio : List ℕ) → comparing [] n radio ≡ refused (plainly 22)
 
 pub record Edges : Type 0 where
   -- reading: no bytes; longer than any message can be; V; flags
@@ -77,5 +77,5 @@ pub record Edges : Type 0 where
   pub length-510 : badLength 510 ≡ false
   pub length-511 : badLength 511 ≡ true
   -- the list of positions: no room, and room for fewer than there are
-  pub no-room : (o : Outcome) → listAfter o [] ≡ []
-  pub little-room : listAfter (positions (3 ∷ 7 ∷ [])) (9 ∷ []) ≡ 3 ∷ []
+  pub no-room : (o : CompareOutcome) → afterComparing o [] ≡ []
+  pub little-room : afterComparing (positions (3 ∷ 7 ∷ [])) (9 ∷ []) ≡ 3 ∷ []

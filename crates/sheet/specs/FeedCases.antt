@@ -5,13 +5,13 @@ use mathlib.Core.List.{List, [], _∷_, _++_}
 use mathlib.Core.Path.{_≡_}
 use lib.ListN.{length, take, drop, set, replicate}
 use Rattle.envelope.specs.Fields.{absent}
-use Rattle.feed.specs.Feeding.{Stand, inside, whole, refused, State, fresh, Finding, nothing, message, refusal, Outcome, taking, ending}
+use Rattle.feed.specs.Feeding.{Stand, inside, whole, refused, State, fresh, Finding, nothing, message, FeedOutcome, taking, ending}
 use Rattle.feed.specs.Stream.{streaming}
-use Rattle.feed.specs.Verdict.{room, FeedFault, reads, tooLong, cut}
+use Rattle.feed.specs.Verdict.{room, FeedRefusal, reads, tooLong, cut}
 use Rattle.sheet.specs.Cases.{M, likeM, withAddresses, C, fieldsOfC}
 
 -- a refusal of reading
-abbrev pub number : ℕ → FeedFault
+abbrev pub number : ℕ → FeedRefusal
 number n = reads (record { number = n })
 
 -- a feed that began with zeros, and these bytes are in
@@ -19,15 +19,15 @@ abbrev pub heldBy : List ℕ → Stand → State
 heldBy m stand = record { kept = m ++ replicate (room - length m) 0; count = length m; stand = stand }
 
 -- a new feed has used these bytes, and found this
-abbrev pub fed : List ℕ → Stand → Finding → Outcome
+abbrev pub fed : List ℕ → Stand → Finding → FeedOutcome
 fed m stand finding = record { state = heldBy m stand; used = length m; finding = finding }
 
 -- n bytes of the piece, refused
-abbrev pub refusedAt : ℕ → List ℕ → FeedFault → Outcome
-refusedAt n piece fault = fed (take n piece) (refused fault) (refusal fault)
+abbrev pub refusedAt : ℕ → List ℕ → FeedRefusal → FeedOutcome
+refusedAt n piece fault = fed (take n piece) (refused fault) (refused fault)
 
 -- nothing is used and nothing changes
-abbrev pub unmoved : State → Finding → Outcome
+abbrev pub unmoved : State → Finding → FeedOutcome
 unmoved s finding = record { state = s; used = 0; finding = finding }
 
 -- M with another announced length (D is 490: 511 bytes; 489: 510 bytes), and with V 5 beside it
@@ -54,7 +54,7 @@ pub record FeedCases : Type 0 where
   -- and by the next piece, where the first ended with the 16th
   pub no-2-cut :
       taking (heldBy (take 16 (set M 0 3)) inside) (drop 16 (set M 0 3))
-      ≡ record { state = heldBy (take 17 (set M 0 3)) (refused (number 2)); used = 1; finding = refusal (number 2) }
+      ≡ record { state = heldBy (take 17 (set M 0 3)) (refused (number 2)); used = 1; finding = refused (number 2) }
   pub no-2-first : taking fresh (set (set M 0 3) 4 0x20) ≡ refusedAt 17 (set (set M 0 3) 4 0x20) (number 2)
   pub no-3-first : taking fresh (set (set M 4 0x20) 16 5) ≡ refusedAt 17 (set (set M 4 0x20) 16 5) (number 3)
   pub no-4-first : taking fresh (set announcing511 16 5) ≡ refusedAt 17 (set announcing511 16 5) (number 4)
@@ -77,13 +77,13 @@ pub record FeedCases : Type 0 where
   -- no bytes, into a new feed, after a message, and after a refusal; and a whole message after a refusal
   pub no-bytes : taking fresh [] ≡ unmoved fresh nothing
   pub no-bytes-after : taking (heldBy C whole) [] ≡ unmoved (heldBy C whole) nothing
-  pub no-bytes-refused : taking (heldBy (take 17 announcing511) (refused tooLong)) [] ≡ unmoved (heldBy (take 17 announcing511) (refused tooLong)) (refusal tooLong)
-  pub not-resumed : taking (heldBy (take 17 announcing511) (refused tooLong)) M ≡ unmoved (heldBy (take 17 announcing511) (refused tooLong)) (refusal tooLong)
+  pub no-bytes-refused : taking (heldBy (take 17 announcing511) (refused tooLong)) [] ≡ unmoved (heldBy (take 17 announcing511) (refused tooLong)) (refused tooLong)
+  pub not-resumed : taking (heldBy (take 17 announcing511) (refused tooLong)) M ≡ unmoved (heldBy (take 17 announcing511) (refused tooLong)) (refused tooLong)
   -- the end: of a new feed, after a message, inside one, after a refusal
   pub end-of-new : ending fresh ≡ unmoved fresh nothing
   pub end-after : ending (heldBy C whole) ≡ unmoved (heldBy C whole) nothing
-  pub end-within : ending (heldBy (take 5 C) inside) ≡ unmoved (heldBy (take 5 C) (refused cut)) (refusal cut)
-  pub end-refused : ending (heldBy (take 17 announcing511) (refused tooLong)) ≡ unmoved (heldBy (take 17 announcing511) (refused tooLong)) (refusal tooLong)
+  pub end-within : ending (heldBy (take 5 C) inside) ≡ unmoved (heldBy (take 5 C) (refused cut)) (refused cut)
+  pub end-refused : ending (heldBy (take 17 announcing511) (refused tooLong)) ≡ unmoved (heldBy (take 17 announcing511) (refused tooLong)) (refused tooLong)
   -- a stream that ends inside its third message, and one that is refused in it: with the 17th of its bytes
   pub stream : streaming fresh (M ++ M ++ take 5 M) ≡ record { found = M ∷ M ∷ []; used = 47; state = record { kept = heldBy M whole .kept; count = 5; stand = inside } }
   pub stream-refused :
