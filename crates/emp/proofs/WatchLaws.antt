@@ -7,7 +7,7 @@ use native.Mathlib.Omega.{arith}
 use lib.ListN.{length}
 use Rattle.feed.proofs.StandLaws.{refused-takes}
 use Rattle.feed.proofs.UseLaws.{uses-bytes, refusal-not-nothing}
-use Rattle.feed.specs.Feeding.{Outcome, refusal}
+use Rattle.feed.specs.Feeding.{FeedOutcome, refused}
 use Rattle.feed.specs.Told.{toldFault, toldFound, stateOf, Advances}
 use Rattle.feed.specs.Verdict.{FeedFault}
 use Rattle.feed.specs.declared.feeder.Feed.{Feed}
@@ -32,14 +32,14 @@ abbrev GetsOn : Step → List ℕ → Type 0
 GetsOn r piece = (0 < r .used) × (r .used ≤ length piece)
 
 gets-on : (kept exit : List ℕ) (count : ℕ) (s : Standing) (piece : List ℕ) (r : Step) → Advances kept count s piece r exit → 0 < length piece
-    → ((f : FeedFault) → toldFound (r .found) ≡ refusal f → ⊥) → GetsOn r piece
+    → ((f : FeedFault) → toldFound (r .found) ≡ refused f → ⊥) → GetsOn r piece
 gets-on kept exit count Inside piece r a some not =
     let u = uses-bytes (lentFeed kept count Inside) piece (asTaken r exit) a in (u .some refl some, u .within)
 gets-on kept exit count Whole piece r a some not =
     let u = uses-bytes (lentFeed kept count Whole) piece (asTaken r exit) a in (u .some refl some, u .within)
 gets-on kept exit count (Refused f) piece r a some not =
     let s = stateOf kept count (Refused f) in
-    absurd (not (toldFault f) (ap (λ (o : Outcome). o .finding) (a ∙ sym (refused-takes s (toldFault f) piece refl))))
+    absurd (not (toldFault f) (ap (λ (o : FeedOutcome). o .finding) (a ∙ sym (refused-takes s (toldFault f) piece refl))))
 
 pub on-with-nothing : (kept exit : List ℕ) (count : ℕ) (s : Standing) (piece : List ℕ) (r : Step) → Advances kept count s piece r exit → 0 < length piece
     → r .found ≡ Nothing → GetsOn r piece
@@ -49,7 +49,7 @@ on-with-nothing kept exit count s piece r a some e =
 pub on-with-message : (kept exit : List ℕ) (count : ℕ) (s : Standing) (piece : List ℕ) (r : Step) → Advances kept count s piece r exit → 0 < length piece
     → (size : ℕ) (m : Envelope) → r .found ≡ Message size m → GetsOn r piece
 on-with-message kept exit count s piece r a some size m e =
-    gets-on kept exit count s piece r a some (λ f z. let q : toldFound (Message size m) ≡ refusal f = ap toldFound (sym e) ∙ z in let n : _≡_ {A = ℕ} 0 1 = cc in omega arith)
+    gets-on kept exit count s piece r a some (λ f z. let q : toldFound (Message size m) ≡ refused f = ap toldFound (sym e) ∙ z in let n : _≡_ {A = ℕ} 0 1 = cc in omega arith)
 
 pub going-on : (lent : ℕ) (r : Course) (stream : Stream) (used : ℕ) → Onward lent r → r ≡ Going stream used → (0 < used) × (used ≤ lent)
 going-on lent r stream used o e = subst (Onward lent) e o

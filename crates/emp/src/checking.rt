@@ -3,8 +3,7 @@
 use crate::printing::end_answer;
 use crate::printing::records;
 use crate::printing::text;
-use crate::refusals::bad_record;
-use crate::refusals::not_a_file;
+use crate::refusals::record_refused;
 use crate::status::Status;
 use golden::Checking;
 use golden::check;
@@ -16,12 +15,8 @@ pub fn check_file(file: &[u8]) -> Status {
             records(count);
             end_answer(Status::Done)
         }
-        Checking::NotAFile => {
-            not_a_file();
-            end_answer(Status::Refused)
-        }
-        Checking::Bad { record, fault } => {
-            bad_record(record, fault);
+        Checking::Refused { record, refusal } => {
+            record_refused(record, refusal);
             end_answer(Status::Refused)
         }
     }

@@ -11,11 +11,7 @@ use crate::printing::bytes;
 use crate::printing::counted;
 use crate::printing::end_answer;
 use crate::printing::text;
-use crate::refusals::bad;
-use crate::refusals::beginning;
-use crate::refusals::no_record;
-use crate::refusals::not_a_file;
-use crate::refusals::radio_unread;
+use crate::refusals::golden_refused;
 use crate::status::Status;
 use envelope::Part;
 use golden::Comparison;
@@ -54,11 +50,7 @@ fn compare_both(file: &[u8], record: usize, radio: &[u8]) -> Status {
             return same(radio.len());
         }
         Comparison::Different(total) => different(file, record, radio, total, &places),
-        Comparison::NotAFile => not_a_file(),
-        Comparison::NoRecord => no_record(),
-        Comparison::Bad(fault) => bad(fault),
-        Comparison::RadioUnread(refusal) => radio_unread(refusal),
-        Comparison::Beginning => beginning(),
+        Comparison::Refused(refusal) => golden_refused(refusal),
     }
     end_answer(Status::Refused)
 }

@@ -5,13 +5,11 @@ use crate::decimal::Decimal;
 use crate::printing::end_answer;
 use crate::printing::text;
 use crate::printing::text_number;
-use crate::refusals::bad_record;
-use crate::refusals::not_a_file;
-use crate::refusals::not_found;
+use crate::refusals::record_refused;
 use crate::status::Status;
 use golden::Finding;
 use golden::Name;
-use golden::RecordFault;
+use golden::Refusal;
 use golden::find;
 
 const LARGEST_TYPE: u64 = 65_535;
@@ -45,23 +43,17 @@ fn find_named(file: &[u8], name: Name) -> Status {
             text_number(b"record ", record as u64);
             ended(opened, Status::Done)
         }
-        Finding::Missing { opened } => {
-            not_found();
-            ended(opened, Status::Refused)
-        }
-        Finding::NotAFile => {
-            not_a_file();
-            ended(0, Status::Refused)
-        }
-        Finding::Bad { fault, opened } => bad(fault, opened),
+        Finding::Refused { refusal, opened } => refuse(refusal, opened),
     }
 }
 
-// The bad record is the last of those opened.
-fn bad(fault: RecordFault, opened: usize) -> Status {
+// A bad record is the last of those opened.
+fn refuse(refusal: Refusal, opened: usize) -> Status {
+    let mut last = 0;
     if 0 < opened {
-        bad_record(opened - 1, fault);
+        last = opened - 1;
     }
+    record_refused(last, refusal);
     ended(opened, Status::Refused)
 }
 

@@ -13,7 +13,7 @@ use crate::status::Status;
 use envelope::Part;
 use frame::Acknowledgment;
 use frame::DataMessage;
-use frame::Fault;
+use frame::Refusal;
 use frame::Unwrapped;
 use frame::Wrapped;
 use frame::acknowledge;
@@ -26,7 +26,7 @@ use frame::wrap;
 const LARGEST_COMMID: u64 = 4_294_967_295;
 
 // The data message of the longest message that is taken.
-const FRAME: usize = LEAST + MOST;
+const FRAME: usize = LEAST_SIZE + MOST;
 
 // A frame that is alone in its file is told with its message.
 pub fn unwrap_file(file: &[u8]) -> Status {
@@ -43,7 +43,7 @@ pub fn unwrap_file(file: &[u8]) -> Status {
             read_message(message.slice(file))
         }
         Unwrapped::Acknowledged(acknowledgment) => tell_acknowledgment(acknowledgment),
-        Unwrapped::Refused(fault) => refuse(1, 0, fault),
+        Unwrapped::Refused(refusal) => refuse(1, 0, refusal),
     }
 }
 
@@ -74,7 +74,7 @@ fn tell_frame(frame: usize, place: usize, bytes: &[u8]) -> Status {
             fill_in(b"frame #: ", &[frame as u64]);
             tell_acknowledgment(acknowledgment)
         }
-        Unwrapped::Refused(fault) => refuse(frame, place, fault),
+        Unwrapped::Refused(refusal) => refuse(frame, place, refusal),
     }
 }
 
@@ -106,9 +106,9 @@ fn tell_acknowledgment(acknowledgment: Acknowledgment) -> Status {
     end_answer(Status::Done)
 }
 
-fn refuse(frame: usize, place: usize, fault: Fault) -> Status {
+fn refuse(frame: usize, place: usize, refusal: Refusal) -> Status {
     fill_in(b"frame #, at place #: ", &[frame as u64, place as u64]);
-    frame_refused(fault);
+    frame_refused(refusal);
     end_answer(Status::Refused)
 }
 
@@ -152,6 +152,6 @@ fn put_frame(wrapped: Wrapped, buffer: &[u8]) -> Status {
             let whole = Part { place: 0, size };
             put(whole.slice(buffer), Status::Done)
         }
-        Wrapped::Refused(fault) => not_wrapped(fault),
+        Wrapped::Refused(refusal) => not_wrapped(refusal),
     }
 }

@@ -4,7 +4,7 @@ use crate::printing::end_answer;
 use crate::printing::fill_in;
 use crate::printing::text;
 use crate::reading::show_accepted;
-use crate::refusals::unread;
+use crate::refusals::reading_refused;
 use crate::status::Status;
 use envelope::Envelope;
 use envelope::Part;
@@ -29,7 +29,7 @@ pub fn judge_message(message: &[u8]) -> Status {
             end_answer(Status::Done)
         }
         Reading::Refused(refusal) => {
-            unread(refusal);
+            reading_refused(refusal);
             end_answer(Status::Refused)
         }
     }

@@ -5,9 +5,7 @@ use crate::printing::end_answer;
 use crate::printing::records;
 use crate::printing::text;
 use crate::printing::text_number;
-use crate::refusals::bad;
-use crate::refusals::no_record;
-use crate::refusals::not_a_file;
+use crate::refusals::golden_refused;
 use crate::status::Status;
 use golden::Checking;
 use golden::Counting;
@@ -22,7 +20,7 @@ pub fn list_file(file: &[u8]) -> Status {
             records(count);
             list_records(file, count);
         }
-        Counting::NotAFile => not_a_file(),
+        Counting::Refused(refusal) => golden_refused(refusal),
     }
     end_answer(status_of(file))
 }
@@ -42,7 +40,6 @@ fn list_records(file: &[u8], records: usize) {
     }
 }
 
-// The last two answers are not met below a file's count.
 fn list_record(file: &[u8], n: usize) {
     text_number(b"\nrecord ", n as u64);
     text(b": ");
@@ -52,9 +49,7 @@ fn list_record(file: &[u8], n: usize) {
             number,
             size,
         } => good(message_type, number, size),
-        Entry::Bad(fault) => bad(fault),
-        Entry::NoRecord => no_record(),
-        Entry::NotAFile => not_a_file(),
+        Entry::Refused(refusal) => golden_refused(refusal),
     }
 }
 

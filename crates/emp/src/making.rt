@@ -1,9 +1,7 @@
 // Make: the record of a message, on standard output and nowhere else.
 // Rests on `golden`, which makes it.
 use crate::printing::put;
-use crate::refusals::too_long;
-use crate::refusals::unread_for_record;
-use crate::refusals::wrong_buffer;
+use crate::refusals::not_made;
 use crate::status::Status;
 use golden::Making;
 use golden::Record;
@@ -13,8 +11,6 @@ pub fn make_record(message: &[u8]) -> Status {
     let mut record = [0u8; Record::SIZE];
     match make(message, &mut record) {
         Making::Made => put(&record, Status::Done),
-        Making::TooLong => too_long(),
-        Making::Unread(refusal) => unread_for_record(refusal),
-        Making::WrongBuffer => wrong_buffer(),
+        Making::Refused(refusal) => not_made(refusal),
     }
 }

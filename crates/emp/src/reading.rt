@@ -8,7 +8,7 @@ use crate::printing::hex_byte;
 use crate::printing::hex_number;
 use crate::printing::text;
 use crate::printing::text_number;
-use crate::refusals::unread;
+use crate::refusals::reading_refused;
 use crate::status::Status;
 use envelope::Addressing;
 use envelope::Envelope;
@@ -39,7 +39,7 @@ pub fn read_message(message: &[u8]) -> Status {
             end_answer(Status::Done)
         }
         Reading::Refused(refusal) => {
-            unread(refusal);
+            reading_refused(refusal);
             end_answer(Status::Refused)
         }
     }

@@ -11,9 +11,9 @@ use crate::printing::text;
 use crate::printing::text_number;
 use crate::refusals::stream_refused;
 use crate::status::Status;
-use feed::Fault;
 use feed::Feed;
 use feed::Found;
+use feed::Refusal;
 use feed::Standing;
 use feed::advance;
 use feed::close;
@@ -141,7 +141,7 @@ fn take_some(kept: &mut [u8; Feed::ROOM], before: Stream, piece: &[u8], golden: 
                 _ => Course::Ended(Status::Complained),
             }
         }
-        Found::Refused(fault) => Course::Ended(refuse(stream, fault)),
+        Found::Refused(refusal) => Course::Ended(refuse(stream, refusal)),
     }
 }
 
@@ -175,18 +175,18 @@ fn end(stream: Stream) -> Status {
     let step = close(stream.count, standing);
     let found = step.found;
     match found {
-        Found::Refused(fault) => refuse(stream, fault),
+        Found::Refused(refusal) => refuse(stream, refusal),
         _ => Status::Done,
     }
 }
 
 // The message that is on its way is the one refused, by the last of the bytes so far.
-fn refuse(stream: Stream, fault: Fault) -> Status {
+fn refuse(stream: Stream, refusal: Refusal) -> Status {
     text_number(b"message ", more(stream.messages, 1));
     text(b", after ");
     bytes(stream.bytes as usize);
     text(b": ");
-    stream_refused(fault);
+    stream_refused(refusal);
     end_answer(Status::Refused)
 }
 

@@ -2,7 +2,7 @@
 use golden::Counting;
 use golden::Entry;
 use golden::Record;
-use golden::RecordFault;
+use golden::Refusal;
 use golden::count;
 use golden::entry_at;
 use libc::STDIN_FILENO;
@@ -23,7 +23,11 @@ fn list(file: &[u8]) {
             heading(records);
             list_records(file, records);
         }
-        Counting::NotAFile => text(b"refused 21 0\n"),
+        Counting::Refused(refusal) => {
+            text(b"refused");
+            numbers(refusal);
+            end_line();
+        }
     }
 }
 
@@ -41,7 +45,7 @@ fn list_records(file: &[u8], records: usize) {
     }
 }
 
-// The record's number, and what the library answers of it. The last two answers are not met below a file's count.
+// The record's number, and what the library answers of it.
 fn line(file: &[u8], n: usize) {
     io::print_decimal(STDOUT_FILENO, n as u64);
     match entry_at(file, n) {
@@ -50,9 +54,10 @@ fn line(file: &[u8], n: usize) {
             number: message_number,
             size,
         } => good(message_type, message_number, size),
-        Entry::Bad(fault) => bad(fault),
-        Entry::NoRecord => refused(22, 0),
-        Entry::NotAFile => refused(21, 0),
+        Entry::Refused(refusal) => {
+            text(b" refused");
+            numbers(refusal);
+        }
     }
     end_line();
 }
@@ -63,15 +68,10 @@ fn good(message_type: u16, message_number: u32, size: usize) {
     number(size as u64);
 }
 
-fn bad(fault: RecordFault) {
-    let numbers = fault.numbers();
-    refused(numbers.number, numbers.reading);
-}
-
-fn refused(refusal: u8, reading: u8) {
-    text(b" refused");
-    number(refusal as u64);
-    number(reading as u64);
+fn numbers(refusal: Refusal) {
+    let numbers = refusal.numbers();
+    number(numbers.number as u64);
+    number(numbers.reading as u64);
 }
 
 // A space, and the number after it.
