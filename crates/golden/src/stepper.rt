@@ -48,7 +48,7 @@ pub(crate) fn answer_at(file: &[u8], n: usize) -> Reached
 }
 
 // One on, except at the end and where the file is refused.
-pub(crate) fn next_after(file: &[u8], n: usize) -> usize
+fn next_after(file: &[u8], n: usize) -> usize
     ensures { λ r. ⌜ r ≡ nextAfter (now (file .entry)) n ⌝ }
 {
     if bad_file(file) {

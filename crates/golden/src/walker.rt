@@ -1,8 +1,7 @@
 // A walk over a golden file: the lent file and the number of the next record, over the step on a file and a number.
 ghost use Rattle.golden.specs.Walking.{Begins, Walks};
 use crate::stepper::Reached;
-use crate::stepper::answer_at;
-use crate::stepper::next_after;
+use crate::stepper::step;
 
 pub struct Walk<'a> {
     pub file: &'a [u8],
@@ -19,8 +18,8 @@ impl<'a> Walk<'a> {
     pub fn step(&mut self) -> Reached
         ensures { λ r. ⌜ Walks (now (self .entry)) r (now (self .exit)) ⌝ }
     {
-        let n = self.next;
-        self.next = next_after(self.file, n);
-        answer_at(self.file, n)
+        let stepping = step(self.file, self.next);
+        self.next = stepping.next;
+        stepping.answer
     }
 }
