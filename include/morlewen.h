@@ -44,52 +44,52 @@ static inline uint32_t morlewen_value(uint64_t answer) { return (uint32_t)(answe
 enum {
     MORLEWEN_DONE = 0,
     /* reading a message */
-    MORLEWEN_TOO_SHORT = 1,         /* fewer than 21 bytes */
-    MORLEWEN_WRONG_VERSION = 2,     /* the header version is not 4 */
-    MORLEWEN_BAD_FLAGS = 3,         /* an unassigned flag is set, or the integrity kind is 3 */
-    MORLEWEN_BAD_VARIABLE_SIZE = 4, /* the variable header's size is 1 to 5, or above 132 */
-    MORLEWEN_WRONG_LENGTH = 5,      /* the sizes in the header do not add up to the length lent */
-    MORLEWEN_BAD_ADDRESSES = 6,     /* source and destination do not fill their room, each with one closing zero, in 64 bytes */
-    MORLEWEN_BAD_INTEGRITY = 7,     /* kind none and the field is not 0, or kind CRC and it is not the CRC */
+    MORLEWEN_TOO_SHORT = 1,              /* fewer than 21 bytes */
+    MORLEWEN_WRONG_VERSION = 2,          /* the header version is not 4 */
+    MORLEWEN_BAD_FLAGS = 3,              /* an unassigned flag is set, or the integrity kind is 3 */
+    MORLEWEN_BAD_VARIABLE_SIZE = 4,      /* the variable header's size is 1 to 5, or above 132 */
+    MORLEWEN_WRONG_LENGTH = 5,           /* the sizes in the header do not add up to the length lent */
+    MORLEWEN_BAD_ADDRESSES = 6,          /* source and destination do not fill their room, each with one closing zero, in 64 bytes */
+    MORLEWEN_BAD_INTEGRITY = 7,          /* kind none and the field is not 0, or kind CRC and it is not the CRC */
     /* writing a message */
-    MORLEWEN_FLAGS_REFUSED = 11,    /* the flags would be refused as 3 */
-    MORLEWEN_ENDS_REFUSED = 12,     /* an address over 63 bytes or with a zero in it, or one given where addressing is absent */
-    MORLEWEN_BODY_TOO_LONG = 13,    /* the body is over 16,777,215 bytes */
-    MORLEWEN_STRAY_INTEGRITY = 14,  /* an integrity number that is not 0, of kind none or CRC */
-    MORLEWEN_NO_ROOM = 15,          /* the buffer is shorter than the message */
+    MORLEWEN_FLAGS_REFUSED = 11,         /* the flags would be refused as 3 */
+    MORLEWEN_ENDS_REFUSED = 12,          /* an address over 63 bytes or with a zero in it, or one given where addressing is absent */
+    MORLEWEN_BODY_TOO_LONG = 13,         /* the body is over 16,777,215 bytes */
+    MORLEWEN_STRAY_INTEGRITY = 14,       /* an integrity number that is not 0, of kind none or CRC */
+    MORLEWEN_NO_ROOM = 15,               /* the buffer is shorter than the message */
     /* golden files and their records */
-    MORLEWEN_NOT_A_FILE = 21,       /* the length is no multiple of 512, or above 65,536 */
-    MORLEWEN_NO_RECORD = 22,        /* the record asked for is not there */
-    MORLEWEN_BAD_LENGTH = 23,       /* the stored length is below 21 or above 510 */
-    MORLEWEN_NOT_CLEAR = 24,        /* a byte after the message is not zero */
-    MORLEWEN_RECORD_UNREAD = 25,    /* reading refuses the record's message; the slot `reading` says why */
-    MORLEWEN_NOT_FOUND = 27,        /* every record is good, and none has that type and number */
-    MORLEWEN_RADIO_UNREAD = 31,     /* reading refuses the radio's message; the slot `reading` says why */
-    MORLEWEN_BEGINNING = 32,        /* one of the two messages is a proper beginning of the other */
-    MORLEWEN_MESSAGE_TOO_LONG = 33, /* a message for a record is over 510 bytes */
-    MORLEWEN_MESSAGE_UNREAD = 34,   /* reading refuses that message; the slot `reading` says why */
-    MORLEWEN_WRONG_BUFFER = 35,     /* the buffer for a record is not 512 bytes */
+    MORLEWEN_NOT_A_GOLDEN_FILE = 21,     /* the length is no multiple of 512, or above 65,536 */
+    MORLEWEN_NO_RECORD = 22,             /* the record asked for is not there */
+    MORLEWEN_BAD_LENGTH = 23,            /* the stored length is below 21 or above 510 */
+    MORLEWEN_NOT_CLEAR = 24,             /* a byte after the message is not zero */
+    MORLEWEN_RECORD_REFUSED = 25,        /* reading refuses the record's message; the slot `reading` says why */
+    MORLEWEN_NOT_FOUND = 27,             /* every record is good, and none has that type and number */
+    MORLEWEN_RADIO_REFUSED = 31,         /* reading refuses the radio's message; the slot `reading` says why */
+    MORLEWEN_ONE_BEGINS_THE_OTHER = 32,  /* one of the two messages is a proper beginning of the other */
+    MORLEWEN_MESSAGE_TOO_LONG = 33,      /* a message for a record is over 510 bytes */
+    MORLEWEN_MESSAGE_REFUSED = 34,       /* reading refuses that message; the slot `reading` says why */
+    MORLEWEN_WRONG_BUFFER = 35,          /* the buffer for a record is not 512 bytes */
     /* QoS */
-    MORLEWEN_QOS_DOES_NOT_FIT = 41, /* one of the five numbers does not fit its bits */
+    MORLEWEN_QOS_DOES_NOT_FIT = 41,      /* one of the five numbers does not fit its bits */
     /* messages as they arrive */
-    MORLEWEN_FEED_TOO_LONG = 51,    /* the announced length is over 510 bytes */
-    MORLEWEN_FEED_CUT = 52,         /* the end came inside a message */
+    MORLEWEN_FEED_TOO_LONG = 51,         /* the announced length is over 510 bytes */
+    MORLEWEN_FEED_CUT = 52,              /* the end came inside a message */
     /* Class D frames; wrapping a message gives 67 before 68 */
-    MORLEWEN_FRAME_TOO_SHORT = 61,  /* shorter than a frame with an empty body, which has 13 bytes */
-    MORLEWEN_NO_STX = 62,           /* the first byte is not STX, 02 */
-    MORLEWEN_FRAME_VERSION = 63,    /* the protocol version or the message version is not 2 */
-    MORLEWEN_FRAME_TYPE = 64,       /* the type is neither data message, 1, nor acknowledgment, 2 */
-    MORLEWEN_FRAME_LENGTH = 65,     /* the data length does not put ETX last, or is not 4 in an acknowledgment */
-    MORLEWEN_NO_ETX = 66,           /* the last byte is not ETX, 03 */
-    MORLEWEN_FRAME_UNREAD = 67,     /* reading refuses the message; the slot `reading` says why */
-    MORLEWEN_FRAME_NO_ROOM = 68,    /* the buffer is shorter than the frame */
-    MORLEWEN_FRAME_TOO_LONG = 69    /* longer than a data length can state: no message is, and it is never given */
+    MORLEWEN_FRAME_TOO_SHORT = 61,       /* shorter than a frame with an empty body, which has 13 bytes */
+    MORLEWEN_NO_STX = 62,                /* the first byte is not STX, 02 */
+    MORLEWEN_FRAME_VERSION = 63,         /* the protocol version or the message version is not 2 */
+    MORLEWEN_FRAME_TYPE = 64,            /* the type is neither data message, 1, nor acknowledgment, 2 */
+    MORLEWEN_FRAME_LENGTH = 65,          /* the data length does not put ETX last, or is not 4 in an acknowledgment */
+    MORLEWEN_NO_ETX = 66,                /* the last byte is not ETX, 03 */
+    MORLEWEN_FRAME_MESSAGE_REFUSED = 67, /* reading refuses the message; the slot `reading` says why */
+    MORLEWEN_FRAME_NO_ROOM = 68,         /* the buffer is shorter than the frame */
+    MORLEWEN_FRAME_TOO_LONG = 69         /* longer than a data length can state: no message is, and it is never given */
 };
 
 enum {
     MORLEWEN_RECORD_SIZE = 512,
-    MORLEWEN_LONGEST_FILE = 65536,
-    MORLEWEN_LONGEST_MESSAGE_IN_A_RECORD = 510
+    MORLEWEN_LARGEST_FILE = 65536,
+    MORLEWEN_MESSAGE_ROOM = 510
 };
 
 /* ---- The integrity sum ---- */
@@ -99,25 +99,25 @@ uint32_t morlewen_crc(const uint8_t *bytes, size_t length);
 
 /* ---- Envelopes ---- */
 
-/* Where morlewen_read puts each field. An end is given without its closing zero. Where there is no variable header, the
- * seven numbers from MORLEWEN_ADDRESSED to MORLEWEN_DESTINATION_SIZE are 0. Places count from the message's first byte. */
+/* Where morlewen_read puts each field. An end is given without its closing zero. Where there is no variable header, the seven
+ * numbers from MORLEWEN_FIELD_ADDRESSED to MORLEWEN_FIELD_DESTINATION_SIZE are 0. Places count from the message's first byte. */
 enum {
-    MORLEWEN_TYPE = 0,
-    MORLEWEN_VERSION = 1, /* the message version; the header version is always 4 */
-    MORLEWEN_FLAGS = 2,
-    MORLEWEN_NUMBER = 3,
-    MORLEWEN_TIME = 4,
-    MORLEWEN_ADDRESSED = 5, /* 1: there is a variable header; 0: there is none */
-    MORLEWEN_TTL = 6,
-    MORLEWEN_QOS = 7,
-    MORLEWEN_SOURCE_PLACE = 8,
-    MORLEWEN_SOURCE_SIZE = 9,
-    MORLEWEN_DESTINATION_PLACE = 10,
-    MORLEWEN_DESTINATION_SIZE = 11,
-    MORLEWEN_BODY_PLACE = 12,
-    MORLEWEN_BODY_SIZE = 13,
-    MORLEWEN_KIND = 14,      /* the integrity kind, MORLEWEN_KIND_NONE and so on */
-    MORLEWEN_INTEGRITY = 15, /* the integrity field's number */
+    MORLEWEN_FIELD_TYPE = 0,
+    MORLEWEN_FIELD_VERSION = 1, /* the message version; the header version is always 4 */
+    MORLEWEN_FIELD_FLAGS = 2,
+    MORLEWEN_FIELD_NUMBER = 3,
+    MORLEWEN_FIELD_TIME = 4,
+    MORLEWEN_FIELD_ADDRESSED = 5, /* 1: there is a variable header; 0: there is none */
+    MORLEWEN_FIELD_TTL = 6,
+    MORLEWEN_FIELD_QOS = 7,
+    MORLEWEN_FIELD_SOURCE_PLACE = 8,
+    MORLEWEN_FIELD_SOURCE_SIZE = 9,
+    MORLEWEN_FIELD_DESTINATION_PLACE = 10,
+    MORLEWEN_FIELD_DESTINATION_SIZE = 11,
+    MORLEWEN_FIELD_BODY_PLACE = 12,
+    MORLEWEN_FIELD_BODY_SIZE = 13,
+    MORLEWEN_FIELD_KIND = 14,      /* the integrity kind, MORLEWEN_KIND_NONE and so on */
+    MORLEWEN_FIELD_INTEGRITY = 15, /* the integrity field's number */
     MORLEWEN_FIELDS = 16
 };
 

@@ -10,7 +10,7 @@
 enum { PLACES = 16 };
 
 /* A byte more than the largest golden file, so that a longer one is refused and not cut short. */
-enum { ROOM = MORLEWEN_LONGEST_FILE + 1 };
+enum { ROOM = MORLEWEN_LARGEST_FILE + 1 };
 
 /* Reads a file, at most ROOM bytes of it. Ends the program where that fails. */
 static size_t contents(const char *name, uint8_t *buffer)

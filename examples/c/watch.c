@@ -22,7 +22,7 @@ static ssize_t next_piece(uint8_t *piece)
 
 static void print_message(uint32_t size, const uint64_t *fields)
 {
-    printf("type %" PRIu64 ", number %" PRIu64 ", %" PRIu32 " bytes\n", fields[MORLEWEN_TYPE], fields[MORLEWEN_NUMBER], size);
+    printf("type %" PRIu64 ", number %" PRIu64 ", %" PRIu32 " bytes\n", fields[MORLEWEN_FIELD_TYPE], fields[MORLEWEN_FIELD_NUMBER], size);
     fflush(stdout);
 }
 

@@ -8,8 +8,8 @@ use lib.ListN.{length}
 use Rattle.feed.proofs.StandLaws.{refused-takes}
 use Rattle.feed.proofs.UseLaws.{uses-bytes, refusal-not-nothing}
 use Rattle.feed.specs.Feeding.{FeedOutcome, refused}
-use Rattle.feed.specs.Told.{toldFault, toldFound, stateOf, Advances}
-use Rattle.feed.specs.Verdict.{FeedFault}
+use Rattle.feed.specs.Told.{toldFeedRefusal, toldFound, stateOf, Advances}
+use Rattle.feed.specs.Verdict.{FeedRefusal}
 use Rattle.feed.specs.declared.feeder.Feed.{Feed}
 use Rattle.feed.specs.declared.feeder.Taken.{Taken}
 use Rattle.feed.specs.declared.step.Found.the-variants.{Nothing, Message}
@@ -32,14 +32,14 @@ abbrev GetsOn : Step → List ℕ → Type 0
 GetsOn r piece = (0 < r .used) × (r .used ≤ length piece)
 
 gets-on : (kept exit : List ℕ) (count : ℕ) (s : Standing) (piece : List ℕ) (r : Step) → Advances kept count s piece r exit → 0 < length piece
-    → ((f : FeedFault) → toldFound (r .found) ≡ refused f → ⊥) → GetsOn r piece
+    → ((f : FeedRefusal) → toldFound (r .found) ≡ refused f → ⊥) → GetsOn r piece
 gets-on kept exit count Inside piece r a some not =
     let u = uses-bytes (lentFeed kept count Inside) piece (asTaken r exit) a in (u .some refl some, u .within)
 gets-on kept exit count Whole piece r a some not =
     let u = uses-bytes (lentFeed kept count Whole) piece (asTaken r exit) a in (u .some refl some, u .within)
 gets-on kept exit count (Refused f) piece r a some not =
     let s = stateOf kept count (Refused f) in
-    absurd (not (toldFault f) (ap (λ (o : FeedOutcome). o .finding) (a ∙ sym (refused-takes s (toldFault f) piece refl))))
+    absurd (not (toldFeedRefusal f) (ap (λ (o : FeedOutcome). o .finding) (a ∙ sym (refused-takes s (toldFeedRefusal f) piece refl))))
 
 pub on-with-nothing : (kept exit : List ℕ) (count : ℕ) (s : Standing) (piece : List ℕ) (r : Step) → Advances kept count s piece r exit → 0 < length piece
     → r .found ≡ Nothing → GetsOn r piece

@@ -33,7 +33,7 @@ use Rattle.golden.specs.declared.lister.Entry.the-variants as entry
 use Rattle.golden.specs.declared.maker.Making.{Making}
 use Rattle.golden.specs.declared.maker.Making.the-variants as making
 use Rattle.golden.specs.declared.refusal.Refusal.{Refusal}
-use Rattle.golden.specs.declared.refusal.Refusal.the-variants.{NotAFile, NoRecord, BadLength, NotClear, RecordRefused, NotFound, RadioRefused, Beginning, TooLong, MessageRefused, WrongBuffer}
+use Rattle.golden.specs.declared.refusal.Refusal.the-variants.{NotAGoldenFile, NoRecord, BadLength, NotClear, RecordRefused, NotFound, RadioRefused, OneBeginsTheOther, TooLong, MessageRefused, WrongBuffer}
 use Rattle.golden.specs.declared.stepper.Reached.{Reached}
 use Rattle.golden.specs.declared.stepper.Reached.the-variants as reached
 use Rattle.golden.specs.declared.walker.Walk.{Walk}
@@ -42,12 +42,12 @@ use Rattle.golden.specs.declared.walker.Walk.{Walk}
 
 abbrev plainOf : ℕ → Refusal
 plainOf n =
-    cond (eqb n 21) NotAFile
+    cond (eqb n 21) NotAGoldenFile
     (cond (eqb n 22) NoRecord
     (cond (eqb n 23) BadLength
     (cond (eqb n 24) NotClear
     (cond (eqb n 27) NotFound
-    (cond (eqb n 32) Beginning
+    (cond (eqb n 32) OneBeginsTheOther
     (cond (eqb n 33) TooLong WrongBuffer))))))
 
 abbrev passedOf : ℕ → envelope.Refusal → Refusal
@@ -58,14 +58,14 @@ untoldGoldenRefusal (plainly n) = plainOf n
 untoldGoldenRefusal (passingOn n r) = passedOf n (untoldRefusal r)
 
 pub untold-golden-refusal : (r : Refusal) → untoldGoldenRefusal (toldGoldenRefusal r) ≡ r
-untold-golden-refusal NotAFile = refl
+untold-golden-refusal NotAGoldenFile = refl
 untold-golden-refusal NoRecord = refl
 untold-golden-refusal BadLength = refl
 untold-golden-refusal NotClear = refl
 untold-golden-refusal (RecordRefused r) = ap RecordRefused (untold-refusal r)
 untold-golden-refusal NotFound = refl
 untold-golden-refusal (RadioRefused r) = ap RadioRefused (untold-refusal r)
-untold-golden-refusal Beginning = refl
+untold-golden-refusal OneBeginsTheOther = refl
 untold-golden-refusal TooLong = refl
 untold-golden-refusal (MessageRefused r) = ap MessageRefused (untold-refusal r)
 untold-golden-refusal WrongBuffer = refl

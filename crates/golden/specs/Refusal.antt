@@ -5,17 +5,17 @@ use Rattle.envelope.specs.Refusals.{Refused, plainly, passingOn, NumbersOf}
 use Rattle.envelope.specs.Told.{toldRefusal}
 use Rattle.envelope.specs.declared.refusals.Numbers.{Numbers}
 use Rattle.golden.specs.declared.refusal.Refusal.{Refusal}
-use Rattle.golden.specs.declared.refusal.Refusal.the-variants.{NotAFile, NoRecord, BadLength, NotClear, RecordRefused, NotFound, RadioRefused, Beginning, TooLong, MessageRefused, WrongBuffer}
+use Rattle.golden.specs.declared.refusal.Refusal.the-variants.{NotAGoldenFile, NoRecord, BadLength, NotClear, RecordRefused, NotFound, RadioRefused, OneBeginsTheOther, TooLong, MessageRefused, WrongBuffer}
 
 abbrev pub toldGoldenRefusal : Refusal → Refused
-toldGoldenRefusal NotAFile = plainly 21
+toldGoldenRefusal NotAGoldenFile = plainly 21
 toldGoldenRefusal NoRecord = plainly 22
 toldGoldenRefusal BadLength = plainly 23
 toldGoldenRefusal NotClear = plainly 24
 toldGoldenRefusal (RecordRefused r) = passingOn 25 (toldRefusal r)
 toldGoldenRefusal NotFound = plainly 27
 toldGoldenRefusal (RadioRefused r) = passingOn 31 (toldRefusal r)
-toldGoldenRefusal Beginning = plainly 32
+toldGoldenRefusal OneBeginsTheOther = plainly 32
 toldGoldenRefusal TooLong = plainly 33
 toldGoldenRefusal (MessageRefused r) = passingOn 34 (toldRefusal r)
 toldGoldenRefusal WrongBuffer = plainly 35

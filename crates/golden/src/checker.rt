@@ -17,7 +17,7 @@ pub fn check(file: &[u8]) -> Checking
     if bad_file(file) {
         return Checking::Refused {
             record: 0,
-            refusal: Refusal::NotAFile,
+            refusal: Refusal::NotAGoldenFile,
         };
     }
     let count = count_of(file);

@@ -38,7 +38,7 @@ fn compare_messages(golden: &[u8], radio: &[u8], list: &mut [u32]) -> Comparison
         × (now (list .exit) ≡ afterComparing (comparingMessages (now (golden .entry)) (now (radio .entry))) (now (list .entry))) ⌝ }
 {
     if is_proper_beginning(golden, radio) {
-        return Comparison::Refused(Refusal::Beginning);
+        return Comparison::Refused(Refusal::OneBeginsTheOther);
     }
     let total = list_positions(golden, radio, list);
     if total == 0 {

@@ -35,7 +35,7 @@ pub fn find(file: &[u8], name: Name) -> Finding
 {
     if bad_file(file) {
         return Finding::Refused {
-            refusal: Refusal::NotAFile,
+            refusal: Refusal::NotAGoldenFile,
             opened: 0,
         };
     }

@@ -24,7 +24,7 @@ pub fn count(file: &[u8]) -> Counting
     ensures { λ r. ⌜ Counts (now (file .entry)) r ⌝ }
 {
     if bad_file(file) {
-        return Counting::Refused(Refusal::NotAFile);
+        return Counting::Refused(Refusal::NotAGoldenFile);
     }
     Counting::Count(count_of(file))
 }
@@ -33,7 +33,7 @@ pub fn entry_at(file: &[u8], n: usize) -> Entry
     ensures { λ r. ⌜ Enters (now (file .entry)) n r ⌝ }
 {
     if bad_file(file) {
-        return Entry::Refused(Refusal::NotAFile);
+        return Entry::Refused(Refusal::NotAGoldenFile);
     }
     if count_of(file) <= n {
         return Entry::Refused(Refusal::NoRecord);

@@ -3,14 +3,14 @@ ghost use Rattle.golden.specs.Refusal.{NumbersGoldenRefusal};
 use envelope::Numbers;
 
 pub enum Refusal {
-    NotAFile,
+    NotAGoldenFile,
     NoRecord,
     BadLength,
     NotClear,
     RecordRefused(envelope::Refusal),
     NotFound,
     RadioRefused(envelope::Refusal),
-    Beginning,
+    OneBeginsTheOther,
     TooLong,
     MessageRefused(envelope::Refusal),
     WrongBuffer,
@@ -22,14 +22,14 @@ impl Refusal {
         ensures { λ r. ⌜ NumbersGoldenRefusal self r ⌝ }
     {
         match self {
-            Refusal::NotAFile => Numbers::plainly(21),
+            Refusal::NotAGoldenFile => Numbers::plainly(21),
             Refusal::NoRecord => Numbers::plainly(22),
             Refusal::BadLength => Numbers::plainly(23),
             Refusal::NotClear => Numbers::plainly(24),
             Refusal::RecordRefused(refusal) => Numbers::passing_on(25, refusal),
             Refusal::NotFound => Numbers::plainly(27),
             Refusal::RadioRefused(refusal) => Numbers::passing_on(31, refusal),
-            Refusal::Beginning => Numbers::plainly(32),
+            Refusal::OneBeginsTheOther => Numbers::plainly(32),
             Refusal::TooLong => Numbers::plainly(33),
             Refusal::MessageRefused(refusal) => Numbers::passing_on(34, refusal),
             Refusal::WrongBuffer => Numbers::plainly(35),

@@ -33,7 +33,7 @@ pub(crate) fn answer_at(file: &[u8], n: usize) -> Reached
     ensures { λ r. ⌜ toldReached r ≡ stepAt (now (file .entry)) n ⌝ }
 {
     if bad_file(file) {
-        return Reached::Refused(Refusal::NotAFile);
+        return Reached::Refused(Refusal::NotAGoldenFile);
     }
     if count_of(file) <= n {
         return Reached::End;

@@ -50,7 +50,7 @@ use Rattle.golden.specs.declared.comparer.Comparison.the-variants as comparison
 use Rattle.golden.specs.declared.maker.Making.the-variants.{Made}
 use Rattle.golden.specs.declared.maker.Making.the-variants as making
 use Rattle.golden.specs.Walking.{Walks}
-use Rattle.golden.specs.declared.refusal.Refusal.the-variants.{NotAFile, NoRecord, BadLength, WrongBuffer}
+use Rattle.golden.specs.declared.refusal.Refusal.the-variants.{NotAGoldenFile, NoRecord, BadLength, WrongBuffer}
 use Rattle.golden.specs.declared.stepper.Reached.{Reached}
 use Rattle.golden.specs.declared.stepper.Reached.the-variants.{Message, End}
 use Rattle.golden.specs.declared.stepper.Reached.the-variants as reached
@@ -224,10 +224,10 @@ pub two-records-walk : (lent : RefT (List ℕ)) → now lent ≡ twoRecords → 
 two-records-walk lent e =
     file-walks-in-order lent (walkAt lent) reachedAt (record { fresh = (refl, refl); steps = walks-on lent e }) (rw e whole-file)
 
-pub one-byte-stays : (lent : RefT (List ℕ)) → now lent ≡ 7 ∷ [] → (k : ℕ) → toldReached (reached.Refused NotAFile) ≡ step.refused (plainly 21)
+pub one-byte-stays : (lent : RefT (List ℕ)) → now lent ≡ 7 ∷ [] → (k : ℕ) → toldReached (reached.Refused NotAGoldenFile) ≡ step.refused (plainly 21)
 unfolding stepAt nextAfter badFile
 one-byte-stays lent e k =
-    other-file-stays lent (λ k. record { file = lent; next = 0 }) (λ k. reached.Refused NotAFile)
+    other-file-stays lent (λ k. record { file = lent; next = 0 }) (λ k. reached.Refused NotAGoldenFile)
     (record { fresh = (refl, refl); steps = λ k. (rw e, (refl, rw e)) }) (rw e) k
 
 -- ---- which refusals: one of each operation

@@ -30,7 +30,7 @@ use Rattle.golden.specs.declared.lister.Counting.the-variants as counting
 use Rattle.golden.specs.declared.lister.Entry.the-variants as entry
 use Rattle.golden.specs.declared.maker.Making.the-variants as making
 use Rattle.golden.specs.declared.refusal.Refusal.{Refusal}
-use Rattle.golden.specs.declared.refusal.Refusal.the-variants.{NotAFile, NoRecord, BadLength, RecordRefused, NotFound}
+use Rattle.golden.specs.declared.refusal.Refusal.the-variants.{NotAGoldenFile, NoRecord, BadLength, RecordRefused, NotFound}
 use Rattle.golden.specs.declared.stepper.Reached.{Reached}
 use Rattle.golden.specs.declared.stepper.Reached.the-variants.{End}
 use Rattle.golden.proofs.MadeLaws.{checks, compared, compares, finds}
@@ -120,7 +120,7 @@ pub count-refuses-one-byte : Counts (7 ∷ []) (counting.Count 0) → ⊥
 unfolding counting badFile
 count-refuses-one-byte kept = let z : _≡_ {A = ℕ} 0 1 = cc in omega arith
 
-pub count-takes-the-empty-file : Counts [] (counting.Refused NotAFile) → ⊥
+pub count-takes-the-empty-file : Counts [] (counting.Refused NotAGoldenFile) → ⊥
 unfolding counting badFile
 count-takes-the-empty-file kept = let z : _≡_ {A = ℕ} 0 1 = cc in omega arith
 
