@@ -2,7 +2,7 @@
 -- That a refusal which is told stands from then on goes byte by byte.
 use mathlib.Core.List.{List, [], _∷_}
 use mathlib.Core.Path.{_≡_, refl, ap, sym, _∙_, subst}
-use Prim.Native.Nat.{ℕ, zero, suc, _<_}
+use Prim.Native.Nat.{ℕ, zero, suc}
 use native.Mathlib.Omega.{arith}
 use Rattle.feed.specs.Feeding.{Stand, inside, whole, refused, State, begunBy, begun, Finding, nothing, FeedOutcome, closing, findingBy, standing, still, furtherBy, taking, ending, endBy}
 use Rattle.feed.specs.Stopping.{RefusalIsKept, RefusalIsTold, EndIsKept, RefusalStands, RestartIsNew, EmptyPiece, EndBetween, EndInside}

@@ -22,7 +22,7 @@ use Rattle.golden.specs.Comparing.{differsAt, differing, isProperBeginni
 use Rattle.golden.specs.File.{badFile, countOf, recordAt, judgedAt}
 use Rattle.golden.specs.Finding.{nameOf, found, finding}
 use Rattle.golden.specs.Making.{recordOf, MakeAnswer, made, refused, makingRead, making, afterMaking}
-use Rattle.golden.specs.Record.{recordSize, headSize, messageRoom, storedWord, storedLength, messageOf, allZero, badLength, notClear, Judged, good, bad, byReading, judging}
+use Rattle.golden.specs.Record.{recordSize, headSize, messageRoom, storedWord, storedLength, messageOf, allZero, badLength, notClear, good, bad, byReading, judging}
 use Rattle.golden.specs.Theorems.{first-named, MadeIsGood, NeverTooShort}
 use Rattle.golden.proofs.CheckedLaws.{good-are-checked}
 use Rattle.golden.proofs.FileLaws.{file-whole, judged-at}

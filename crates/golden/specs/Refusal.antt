@@ -1,6 +1,5 @@
 -- What each refusal of the golden file is on paper: its number, and for 25, 31 and 34 the refusal of reading too, passed on whole. RULES 5.
 -- One table for all operations; which of them each can give is said in specs/Gives.
-use Prim.Native.Nat.{ℕ}
 use Rattle.envelope.specs.Refusals.{Refused, plainly, passingOn, NumbersOf}
 use Rattle.envelope.specs.Told.{toldRefusal}
 use Rattle.envelope.specs.declared.refusals.Numbers.{Numbers}

@@ -1,6 +1,5 @@
 -- `envelope_lines::front` lends no more than there is.
 use borrow.Author.Needs.{needs}
-use lib.ListN.{length}
 use mathlib.Core.Path.{sym}
 use native.Mathlib.Omega.{arith}
 use lib.Seq.{length-take-le}

@@ -1,6 +1,5 @@
 -- `reader::bad_variable_size` is rule 4: absent, too small, or too large.
 use native.Mathlib.Omega.{arith}
-use borrow.Author.Needs.{needs}
 use borrow.Author.Tests.{le-leb, le-ltb, lt-ltb}
 use Rattle.envelope.specs.Heading.{badVariableSize}
 use Rattle.envelope.proofs.reader.bad_variable_size.Statement.{statement}

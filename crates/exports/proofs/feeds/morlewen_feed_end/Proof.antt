@@ -1,11 +1,11 @@
 -- `feeds::morlewen_feed_end`: the promise of `close`, told in a word and in two numbers.
 use mathlib.Core.List.{[], _∷_}
-use mathlib.Core.Path.{_≡_, ap, _∙_}
+use mathlib.Core.Path.{ap, _∙_}
 use native.Mathlib.Omega.{arith}
-use Rattle.feed.specs.Feeding.{State, FeedOutcome, ending}
+use Rattle.feed.specs.Feeding.{FeedOutcome, ending}
 use Rattle.exports.proofs.FeedLaws.{state-lent}
 use Rattle.exports.proofs.FitsLaws.{end-fits}
-use Rattle.exports.specs.Feeds.{foundSlots, stateNumbers, stateFor}
+use Rattle.exports.specs.Feeds.{foundSlots, stateNumbers}
 use Rattle.exports.specs.Word.{word}
 use borrow.Author.Needs.{needs}
 use Rattle.exports.proofs.feeds.morlewen_feed_end.Statement.{statement}

@@ -1,12 +1,11 @@
 -- `feeds::morlewen_feed_message`: the promise of `held`, told in a word; the message is no longer than what is kept.
 use mathlib.Core.List.{List}
-use mathlib.Core.Path.{_≡_, ap, _∙_}
+use mathlib.Core.Path.{ap, _∙_}
 use Prim.Native.Nat.{ℕ}
 use native.Mathlib.Omega.{arith}
 use lib.ListN.{length}
-use Rattle.feed.specs.Feeding.{State, holding}
+use Rattle.feed.specs.Feeding.{holding}
 use Rattle.exports.proofs.FeedLaws.{state-lent, held-short}
-use Rattle.exports.specs.Feeds.{stateFor}
 use Rattle.exports.specs.Word.{word, sized}
 use borrow.Author.Needs.{needs}
 use Rattle.exports.proofs.feeds.morlewen_feed_message.Statement.{statement}

@@ -1,10 +1,10 @@
 -- `feeds::morlewen_feed_take`: the promise of `advance`, told in a word, in two numbers and in sixteen.
 use mathlib.Core.List.{[], _∷_}
-use mathlib.Core.Path.{_≡_, ap, _∙_}
+use mathlib.Core.Path.{ap, _∙_}
 use Rattle.feed.specs.Feeding.{State, FeedOutcome, taking}
 use Rattle.exports.proofs.FeedLaws.{state-lent}
 use Rattle.exports.proofs.FitsLaws.{take-fits}
-use Rattle.exports.specs.Feeds.{foundSlots, stateFor, lentAfter}
+use Rattle.exports.specs.Feeds.{foundSlots, lentAfter}
 use Rattle.exports.specs.Word.{word}
 use borrow.Author.Needs.{needs}
 use Rattle.exports.proofs.feeds.morlewen_feed_take.Statement.{statement}
