@@ -1,10 +1,8 @@
 -- One answer alone keeps each promise: what a function is told as can be told back.
 -- `untold` undoes `told`, case by case.
-use mathlib.Core.Bool.{false, cond}
 use mathlib.Core.List.{List}
 use mathlib.Core.Path.{_≡_, refl, sym, ap, _∙_}
 use Prim.Native.Nat.{ℕ, zero, suc, _-_}
-use lib.Dec.{eqb}
 use lib.ListN.{length}
 pub use Rattle.sum.proofs.Laws.{only-by-telling}
 use Rattle.sum.specs.Promise.{Only₁}
@@ -18,13 +16,13 @@ use Rattle.envelope.specs.Promise.{Only₂}
 use Rattle.envelope.specs.Qos.{QosFields, splitting, QosAnswer, joining, toldQos, toldJoining, Splits, Joins}
 use Rattle.envelope.specs.Qos as qos
 use Rattle.envelope.specs.Reading.{reading}
-use Rattle.envelope.specs.Refusals.{RefusalNumbers, numbersOf, toldNumbers, NumbersOf}
+use Rattle.envelope.specs.Refusals.{RefusalNumbers, numbersOf, toldNumbers, TellsNumbers}
 use Rattle.envelope.specs.Refusals as passed
 use Rattle.envelope.specs.Rewriting.{RewriteAnswer, toldRewriting, Rewrites}
 use Rattle.envelope.specs.Rewriting as rewriting
 use Rattle.envelope.specs.Sequence.{SequenceAnswer, repeat, next, ahead, behind, sequenceOf, distance, toldSequence, Distance, JudgesSequence}
 use Rattle.envelope.specs.Told.{toldFault, toldRefusal, NumbersFault, toldAddressing, toldIntegrity, toldEnvelope, told, Slices, Reads, Holds}
-use Rattle.envelope.specs.Writing.{WriteAnswer, wrote, refused, writeAnswer, writing, toldWriteFault, NumbersWriteFault, toldWriting, Writes}
+use Rattle.envelope.specs.Writing.{WriteAnswer, wrote, refused, answerToWriting, writing, toldWriteFault, NumbersWriteFault, toldWriting, Writes}
 use Rattle.envelope.specs.declared.fields.Part.{Part}
 use Rattle.envelope.specs.declared.fields.Header.{Header}
 use Rattle.envelope.specs.declared.fields.Addressing.{Addressing}
@@ -82,7 +80,7 @@ pub only-numbers-fault : (f : Fault) → Only₁ (NumbersFault f)
 only-numbers-fault f a b p q = p ∙ sym q
 
 -- of whoever passes it on
-pub only-numbers : (r : passed.Refused) → Only₁ (NumbersOf r)
+pub only-numbers : (r : passed.Refused) → Only₁ (TellsNumbers r)
 only-numbers r =
     only-by-telling toldNumbers (λ (n : RefusalNumbers). record { number = n .number; reading = n .reading }) (λ a. refl) (numbersOf r)
 
@@ -276,25 +274,16 @@ untold-writing (WriteRefused f) = ap WriteRefused (untold-write-fault f)
 
 pub only-writes : (g : Given) (entry : List ℕ) → Only₂ (Writes g entry)
 only-writes g entry a b x y p q =
-    (only-by-telling toldWriting untoldWriting untold-writing (writeAnswer (writing g (length entry))) a b (p .0) (q .0), p .1 ∙ sym (q .1))
-
--- reading has no refusal 15
-not-15 : (f : Fault) → eqb (toldFault f) 15 ≡ false
-not-15 TooShort = refl
-not-15 WrongVersion = refl
-not-15 BadFlags = refl
-not-15 BadVariableSize = refl
-not-15 WrongLength = refl
-not-15 BadAddresses = refl
-not-15 BadIntegrity = refl
+    (only-by-telling toldWriting untoldWriting untold-writing (answerToWriting (writing g (length entry))) a b (p .0) (q .0), p .1 ∙ sym (q .1))
 
 abbrev untoldRewriting : RewriteAnswer → Rewriting
 untoldRewriting (rewriting.rewrote n) = again.Written n
-untoldRewriting (rewriting.refused r) = cond (eqb (r .number) 15) again.NoRoom (again.Refused (untoldRefusal r))
+untoldRewriting (rewriting.refused r) = again.Refused (untoldRefusal r)
+untoldRewriting rewriting.noRoom = again.NoRoom
 
 untold-rewriting : (r : Rewriting) → untoldRewriting (toldRewriting r) ≡ r
 untold-rewriting (again.Written n) = refl
-untold-rewriting (again.Refused r) = rw (not-15 (r .fault)) (ap again.Refused (untold-refusal r))
+untold-rewriting (again.Refused r) = ap again.Refused (untold-refusal r)
 untold-rewriting again.NoRoom = refl
 
 pub only-rewrites : (s entry : List ℕ) → Only₂ (Rewrites s entry)

@@ -11,7 +11,7 @@ use lib.ListN.{length, take}
 use Rattle.sum.specs.Crc.{crc32}
 use Rattle.sum.specs.Detection.{Bytes}
 use Rattle.envelope.specs.Addresses.{badAddresses}
-use Rattle.envelope.specs.Fields.{IntegrityFields, none, crc, application, Fields, Refusal, Answer, accepted, refusal}
+use Rattle.envelope.specs.Fields.{IntegrityFields, none, crc, application, Fields, Refusal, Answer, accepted, refusedBy}
 use Rattle.envelope.specs.Flags.{kindOf, kindNone, kindCrc, kindApplication, kindUnassigned, badFlags}
 use Rattle.envelope.specs.Heading.{flagsOf, variableSize, dataLength, fieldPlace, announced, wrongVersion, badVariableSize, HeadingAnswer, passed, refused, heading}
 use Rattle.envelope.specs.IntegrityField.{badIntegrity}
@@ -31,7 +31,7 @@ pub record Good (s : List ℕ) (f : Fields) : Type 0 where
   pub integrity : badIntegrity s (kindOf (flagsOf s)) (fieldPlace s) ≡ false
   pub fields : f ≡ fieldsOf s
 
-refused-is-not-accepted : {n : ℕ} {f : Fields} → refusal n ≡ accepted f → ⊥
+refused-is-not-accepted : {n : ℕ} {f : Fields} → refusedBy n ≡ accepted f → ⊥
 refused-is-not-accepted e = let z : _≡_ {A = ℕ} 0 1 = cc in omega arith
 
 past-heading : (j : HeadingAnswer) (rest : Answer) (f : Fields) → after j rest ≡ accepted f → (j ≡ passed) × (rest ≡ accepted f)
@@ -82,7 +82,7 @@ accepted-most s f bytes e =
     omega (arith, g .size, announced-is s, size-most (variableSize s) (g .heading .size), data-length-most s bytes)
 
 -- two refusals with different numbers differ
-apart-number : (m n : ℕ) → T (not (eqb m n)) → refusal m ≡ refusal n → ⊥
+apart-number : (m n : ℕ) → T (not (eqb m n)) → refusedBy m ≡ refusedBy n → ⊥
 apart-number m n t e =
     let same : _≡_ {A = Refusal} (record { number = m }) (record { number = n }) = cc in
     T-not (eqb m n) t (subst (λ (k : ℕ). T (eqb m k)) (ap (λ (r : Refusal). r .number) same) (eqb-refl m))
@@ -90,8 +90,8 @@ apart-number m n t e =
 -- a heading that passed and the announced length: accepted, or refused as 6 or 7
 pub data Completed (s : List ℕ) : Type 0 where
   accepts-it : (f : Fields) → reading s ≡ accepted f → Completed s
-  refuses-6 : reading s ≡ refusal 6 → Completed s
-  refuses-7 : reading s ≡ refusal 7 → Completed s
+  refuses-6 : reading s ≡ refusedBy 6 → Completed s
+  refuses-7 : reading s ≡ refusedBy 7 → Completed s
 
 pub completed : (s : List ℕ) → heading s ≡ passed → announced s ≡ length s → Completed s
 unfolding reading readingWhole
@@ -106,20 +106,20 @@ completed s h n = go (badAddresses s (variableSize s)) refl (badIntegrity s (kin
     go false ea false ei = accepts-it (fieldsOf s) (rw (long, h, eq-eqb (announced s) (length s) n, ea, ei))
 
 -- 1 is for messages that are too short, and no other rule gives it
-whole-not-1 : (a b c : Bool) (f : Fields) → cond a (refusal 5) (cond b (refusal 6) (cond c (refusal 7) (accepted f))) ≡ refusal 1 → ⊥
+whole-not-1 : (a b c : Bool) (f : Fields) → cond a (refusedBy 5) (cond b (refusedBy 6) (cond c (refusedBy 7) (accepted f))) ≡ refusedBy 1 → ⊥
 whole-not-1 true b c f e = apart-number 5 1 tt e
 whole-not-1 false true c f e = apart-number 6 1 tt e
 whole-not-1 false false true f e = apart-number 7 1 tt e
 whole-not-1 false false false f e = let z : _≡_ {A = ℕ} 0 1 = cc in omega arith
 
-heading-not-1 : (a b c : Bool) (rest : Answer) → (rest ≡ refusal 1 → ⊥)
-    → after (cond a (refused 2) (cond b (refused 3) (cond c (refused 4) passed))) rest ≡ refusal 1 → ⊥
+heading-not-1 : (a b c : Bool) (rest : Answer) → (rest ≡ refusedBy 1 → ⊥)
+    → after (cond a (refused 2) (cond b (refused 3) (cond c (refused 4) passed))) rest ≡ refusedBy 1 → ⊥
 heading-not-1 true b c rest h e = apart-number 2 1 tt e
 heading-not-1 false true c rest h e = apart-number 3 1 tt e
 heading-not-1 false false true rest h e = apart-number 4 1 tt e
 heading-not-1 false false false rest h e = h e
 
-pub long-not-1 : (s : List ℕ) → leastSize ≤ length s → reading s ≡ refusal 1 → ⊥
+pub long-not-1 : (s : List ℕ) → leastSize ≤ length s → reading s ≡ refusedBy 1 → ⊥
 unfolding reading readingWhole heading
 long-not-1 s l e =
     heading-not-1 (wrongVersion s) (badFlags (flagsOf s)) (badVariableSize (variableSize s)) _

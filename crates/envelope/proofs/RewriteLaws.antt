@@ -16,7 +16,7 @@ use Rattle.envelope.specs.Reading.{reading}
 use Rattle.envelope.specs.Rewriting.{RewriteAnswer, rewrote, refused, rewritingRead, rewriting, afterRewriting, rewroteLength, RewritesNoLonger, noRoom, toldRewriting, RefusedRewriteWritesNothing}
 use Rattle.envelope.specs.RoundTrips.{applicationNumber, givenBy}
 use Rattle.envelope.specs.Told.{toldPart, toldIntegrity, toldEnvelope}
-use Rattle.envelope.specs.Writing.{WriteOutcome, written, refused, writing, afterWriting, wrote, writeAnswer, given, Writes}
+use Rattle.envelope.specs.Writing.{WriteOutcome, written, refused, writing, afterWriting, wrote, answerToWriting, given, Writes}
 use Rattle.envelope.specs.Writing as write
 use Rattle.envelope.specs.declared.fields.Addressing.the-variants.{Absent, Present}
 use Rattle.envelope.specs.declared.fields.Envelope.{Envelope}
@@ -45,15 +45,15 @@ writes-same g h entry exit r e w = subst (λ (x : Given). Writes x entry r exit)
 
 -- ---- the answer and the buffer
 
-wrote-cases : (b : Bool) (s entry : List ℕ) (n : ℕ) → wrote n ≡ writeAnswer (cond b (refused 15) (written s))
-    → (rewrote n ≡ cond b (refused noRoom) (rewrote (length s)))
-    × (afterWriting (cond b (refused 15) (written s)) entry ≡ afterRewriting (cond b (refused noRoom) (rewrote (length s))) s entry)
+wrote-cases : (b : Bool) (s entry : List ℕ) (n : ℕ) → wrote n ≡ answerToWriting (cond b (refused 15) (written s))
+    → (rewrote n ≡ cond b noRoom (rewrote (length s)))
+    × (afterWriting (cond b (refused 15) (written s)) entry ≡ afterRewriting (cond b noRoom (rewrote (length s))) s entry)
 wrote-cases true s entry n e = (cc, cc)
 wrote-cases false s entry n e = (cc, refl)
 
-refused-cases : (b : Bool) (s entry : List ℕ) (k : ℕ) → write.refused k ≡ writeAnswer (cond b (refused 15) (written s))
-    → (refused noRoom ≡ cond b (refused noRoom) (rewrote (length s)))
-    × (afterWriting (cond b (refused 15) (written s)) entry ≡ afterRewriting (cond b (refused noRoom) (rewrote (length s))) s entry)
+refused-cases : (b : Bool) (s entry : List ℕ) (k : ℕ) → write.refused k ≡ answerToWriting (cond b (refused 15) (written s))
+    → (noRoom ≡ cond b noRoom (rewrote (length s)))
+    × (afterWriting (cond b (refused 15) (written s)) entry ≡ afterRewriting (cond b noRoom (rewrote (length s))) s entry)
 refused-cases true s entry k e = (refl, refl)
 refused-cases false s entry k e = (cc, cc)
 
@@ -65,19 +65,19 @@ module _ (s : List ℕ) (f : Fields) (entry exit : List ℕ) (bytes : Bytes s) (
   outcome : writing (givenBy s f) (length entry) ≡ cond short (refused 15) (written s)
   outcome = written-again s f (length entry) bytes accepts
 
-  rewriting-is : rewriting s (length entry) ≡ cond short (refused noRoom) (rewrote (length s))
+  rewriting-is : rewriting s (length entry) ≡ cond short noRoom (rewrote (length s))
   rewriting-is = rw accepts
 
-  pub rewrote-it : (n : ℕ) → wrote n ≡ writeAnswer (writing (givenBy s f) (length entry))
+  pub rewrote-it : (n : ℕ) → wrote n ≡ answerToWriting (writing (givenBy s f) (length entry))
       → (rewrote n ≡ rewriting s (length entry)) × (exit ≡ afterRewriting (rewriting s (length entry)) s entry)
   rewrote-it n e =
-      let p = wrote-cases short s entry n (e ∙ ap writeAnswer outcome) in
+      let p = wrote-cases short s entry n (e ∙ ap answerToWriting outcome) in
       (p .0 ∙ sym rewriting-is, kept ∙ ap (λ (o : WriteOutcome). afterWriting o entry) outcome ∙ p .1 ∙ ap (λ (a : RewriteAnswer). afterRewriting a s entry) (sym rewriting-is))
 
-  pub no-room : (k : ℕ) → write.refused k ≡ writeAnswer (writing (givenBy s f) (length entry))
-      → (refused noRoom ≡ rewriting s (length entry)) × (exit ≡ afterRewriting (rewriting s (length entry)) s entry)
+  pub no-room : (k : ℕ) → write.refused k ≡ answerToWriting (writing (givenBy s f) (length entry))
+      → (noRoom ≡ rewriting s (length entry)) × (exit ≡ afterRewriting (rewriting s (length entry)) s entry)
   no-room k e =
-      let p = refused-cases short s entry k (e ∙ ap writeAnswer outcome) in
+      let p = refused-cases short s entry k (e ∙ ap answerToWriting outcome) in
       (p .0 ∙ sym rewriting-is, kept ∙ ap (λ (o : WriteOutcome). afterWriting o entry) outcome ∙ p .1 ∙ ap (λ (a : RewriteAnswer). afterRewriting a s entry) (sym rewriting-is))
 
 -- ---- how long an answer can be
@@ -85,7 +85,7 @@ module _ (s : List ℕ) (f : Fields) (entry exit : List ℕ) (bytes : Bytes s) (
 pub rewrites-no-longer : RewritesNoLonger
 rewrites-no-longer s room bytes = go (reading s) refl
   where
-    fits : (b : Bool) → length s ≤ largestMessage → rewroteLength (cond b (refused noRoom) (rewrote (length s))) ≤ largestMessage
+    fits : (b : Bool) → length s ≤ largestMessage → rewroteLength (cond b noRoom (rewrote (length s))) ≤ largestMessage
     fits true h = omega arith
     fits false h = h
 
@@ -100,4 +100,5 @@ refused-rewrite-writes-nothing s entry exit r p h = go (rewriting s (length entr
   where
     go : (a : RewriteAnswer) → toldRewriting r ≡ a → exit ≡ afterRewriting a s entry → exit ≡ entry
     go (rewrote n) e x = absurd (h n e)
-    go (refused n) e x = x
+    go (refused q) e x = x
+    go noRoom e x = x

@@ -14,7 +14,7 @@ use Rattle.envelope.specs.Message.{message}
 use Rattle.envelope.specs.Reading.{reading}
 use Rattle.envelope.specs.Told.{toldEnvelope}
 use Rattle.envelope.specs.RoundTrips.{givenBy, WrittenThenRead, WrittenBufferThenRead, ReadThenWritten, SameFieldsSameBytes, WrittenThenHandedOut, HandedOutThenWritten}
-use Rattle.envelope.specs.Writing.{WriteOutcome, written, refused, writing, afterWriting, wrote, writeAnswer}
+use Rattle.envelope.specs.Writing.{WriteOutcome, written, refused, writing, afterWriting, wrote, answerToWriting}
 use Rattle.envelope.proofs.ReadingLaws.{good}
 use Rattle.envelope.proofs.RebuiltLaws.{rebuilt, again-kept}
 use Rattle.envelope.proofs.WriteLaws.{wrote-kept, kept-written, four-writing}
@@ -25,7 +25,7 @@ same-message l m e = cc
 
 pub written-then-read : WrittenThenRead
 written-then-read g room m e =
-    let k = wrote-kept g room (length m) (sym (ap writeAnswer e)) in
+    let k = wrote-kept g room (length m) (sym (ap answerToWriting e)) in
     rw (← same-message (message g) m (sym (kept-written g room k) ∙ e)) (reads-as g room k)
 
 same-length : (m n : ℕ) → wrote m ≡ wrote n → m ≡ n
@@ -35,7 +35,7 @@ pub written-buffer-then-read : WrittenBufferThenRead
 written-buffer-then-read g entry exit r n w e =
     let k = wrote-kept g (length entry) n (sym e ∙ w .0) in
     let d = kept-written g (length entry) k in
-    let size : n ≡ length (message g) = same-length n _ (sym e ∙ w .0 ∙ ap writeAnswer d) in
+    let size : n ≡ length (message g) = same-length n _ (sym e ∙ w .0 ∙ ap answerToWriting d) in
     let front : take n exit ≡ message g =
     (λ i. take (size i) ((w .1 ∙ ap (λ (o : WriteOutcome). afterWriting o entry) d) i))
     ∙ take-append-seam (message g) (drop (length (message g)) entry) in
@@ -67,7 +67,7 @@ written-then-handed-out g entry exit w n r p e h =
 pub handed-out-then-written : HandedOutThenWritten
 handed-out-then-written s e entry exit w bytes h room p =
     let d = read-then-written s (toldEnvelope e) (length entry) bytes (sym h) room in
-    (p .0 ∙ ap writeAnswer d, p .1 ∙ ap (λ (o : WriteOutcome). afterWriting o entry) d)
+    (p .0 ∙ ap answerToWriting d, p .1 ∙ ap (λ (o : WriteOutcome). afterWriting o entry) d)
 
 pub same-fields-same-bytes : SameFieldsSameBytes
 same-fields-same-bytes s t f bs bt es et same = sym (rebuilds s f bs es) ∙ ap message same ∙ rebuilds t f bt et

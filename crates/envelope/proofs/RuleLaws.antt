@@ -10,7 +10,7 @@ use lib.Dec.{eqb, ltb}
 use lib.ListN.{take}
 use Rattle.sum.specs.Crc.{crc32}
 use Rattle.envelope.specs.Addresses.{badAddresses}
-use Rattle.envelope.specs.Fields.{Answer, accepted, refusal}
+use Rattle.envelope.specs.Fields.{Answer, accepted, refusedBy}
 use Rattle.envelope.specs.Flags.{kindOf, kindNone, kindCrc, kindUnassigned, badFlags}
 use Rattle.envelope.specs.Heading.{flagsOf, variableSize, fieldPlace, wrongVersion, badVariableSize, passed, refused, heading}
 use Rattle.envelope.specs.IntegrityField.{badIntegrity}
@@ -81,22 +81,22 @@ module _ (s : List ℕ) (kind place : ℕ) where
 
 after-heading : (a b c : Bool) (rest : Answer)
     → after (cond a (refused 2) (cond b (refused 3) (cond c (refused 4) passed))) rest
-    ≡ cond a (refusal 2) (cond b (refusal 3) (cond c (refusal 4) rest))
+    ≡ cond a (refusedBy 2) (cond b (refusedBy 3) (cond c (refusedBy 4) rest))
 after-heading true b c rest = refl
 after-heading false true c rest = refl
 after-heading false false true rest = refl
 after-heading false false false rest = refl
 
 pub reading-by-rules : (s : List ℕ) → reading s
-    ≡ cond (tooShort s) (refusal 1)
-    (cond (wrongVersion s) (refusal 2)
-    (cond (badFlags (flagsOf s)) (refusal 3)
-    (cond (badVariableSize (variableSize s)) (refusal 4)
-    (cond (wrongLength s) (refusal 5)
-    (cond (badAddresses s (variableSize s)) (refusal 6)
-    (cond (badIntegrity s (kindOf (flagsOf s)) (fieldPlace s)) (refusal 7)
+    ≡ cond (tooShort s) (refusedBy 1)
+    (cond (wrongVersion s) (refusedBy 2)
+    (cond (badFlags (flagsOf s)) (refusedBy 3)
+    (cond (badVariableSize (variableSize s)) (refusedBy 4)
+    (cond (wrongLength s) (refusedBy 5)
+    (cond (badAddresses s (variableSize s)) (refusedBy 6)
+    (cond (badIntegrity s (kindOf (flagsOf s)) (fieldPlace s)) (refusedBy 7)
     (accepted (fieldsOf s))))))))
 unfolding reading readingWhole heading
 reading-by-rules s =
-    ap (cond (tooShort s) (refusal 1))
+    ap (cond (tooShort s) (refusedBy 1))
     (after-heading (wrongVersion s) (badFlags (flagsOf s)) (badVariableSize (variableSize s)) _)

@@ -15,7 +15,7 @@ use Rattle.envelope.specs.Helpers.{pasted, variableLength, Allowed}
 use Rattle.envelope.specs.Layout.{headerSize, fieldSize, largestVariable, largestAddress, largestBody, largestMessage}
 use Rattle.envelope.specs.Message.{RoutingFields, unaddressed, addressed, Given, headerBytes, variableBytes, variableOf, beforeField, fieldNumber, message}
 use Rattle.envelope.specs.Numbers.{inFour}
-use Rattle.envelope.specs.Writing.{hasZero, badEnd, strayEnds, badEnds, bodyTooLong, strayIntegrity, WriteOutcome, written, refused, writing, afterWriting, wrote, writeAnswer, wroteLength, WritesNoLonger, RefusalWritesNothing}
+use Rattle.envelope.specs.Writing.{hasZero, badEnd, strayEnds, badEnds, bodyTooLong, strayIntegrity, WriteOutcome, written, refused, writing, afterWriting, wrote, answerToWriting, wroteLength, WritesNoLonger, RefusalWritesNothing}
 use Rattle.envelope.proofs.BoolLaws.{neither}
 use Rattle.envelope.proofs.PastedLaws.{pasted-more}
 
@@ -115,11 +115,11 @@ pub kept-written : (g : Given) (room : ℕ) → Kept g room → writing g room �
 kept-written g room k = four-writing g room (k .four) ∙ rw (k .fits)
 
 -- a length was answered
-passes : (b : Bool) (k n : ℕ) (w : WriteOutcome) → wrote n ≡ writeAnswer (cond b (refused k) w) → (b ≡ false) × (wrote n ≡ writeAnswer w)
+passes : (b : Bool) (k n : ℕ) (w : WriteOutcome) → wrote n ≡ answerToWriting (cond b (refused k) w) → (b ≡ false) × (wrote n ≡ answerToWriting w)
 passes true k n w e = (cc, cc)
 passes false k n w e = (refl, e)
 
-pub wrote-kept : (g : Given) (room n : ℕ) → wrote n ≡ writeAnswer (writing g room) → Kept g room
+pub wrote-kept : (g : Given) (room n : ℕ) → wrote n ≡ answerToWriting (writing g room) → Kept g room
 unfolding writing
 wrote-kept g room n e =
     let p1 = passes (badFlags (g .header .flags)) 11 n _ e in
@@ -152,16 +152,16 @@ message-most g room k =
 pub writes-no-longer : WritesNoLonger
 writes-no-longer g room = go (writing g room) refl
   where
-    go : (w : WriteOutcome) → writing g room ≡ w → wroteLength (writeAnswer w) ≤ largestMessage
+    go : (w : WriteOutcome) → writing g room ≡ w → wroteLength (answerToWriting w) ≤ largestMessage
     go (refused n) e = omega arith
     go (written m) e =
         let k = wrote-kept g room (length m) (rw e) in
-        let same : length (message g) ≡ length m = ap (λ (w : WriteOutcome). wroteLength (writeAnswer w)) (sym (kept-written g room k) ∙ e) in
+        let same : length (message g) ≡ length m = ap (λ (w : WriteOutcome). wroteLength (answerToWriting w)) (sym (kept-written g room k) ∙ e) in
         omega (arith, same, message-most g room k)
 
 -- ---- the buffer afterwards
 
-pub refused-after : (w : WriteOutcome) (k : ℕ) (entry : List ℕ) → refused k ≡ writeAnswer w → entry ≡ afterWriting w entry
+pub refused-after : (w : WriteOutcome) (k : ℕ) (entry : List ℕ) → refused k ≡ answerToWriting w → entry ≡ afterWriting w entry
 refused-after (written m) k entry e = cc
 refused-after (refused n) k entry e = refl
 

@@ -40,8 +40,8 @@ pub data Answer : Type 0 where
   refused : Refusal → Answer
 
 -- the refusal of a rule
-abbrev pub refusal : ℕ → Answer
-refusal n = refused (record { number = n })
+abbrev pub refusedBy : ℕ → Answer
+refusedBy n = refused (record { number = n })
 
 -- the bytes of a part
 abbrev pub partOf : List ℕ → Span → List ℕ

@@ -6,7 +6,7 @@ use mathlib.Core.List.{List}
 use lib.Dec.{eqb, ltb}
 use lib.ListN.{length}
 use Rattle.envelope.specs.Addresses.{regionOf, sourceSize, destinationSize, badAddresses}
-use Rattle.envelope.specs.Fields.{Span, HeaderFields, AddressingFields, absent, present, IntegrityFields, none, crc, application, Fields, Answer, accepted, refusal}
+use Rattle.envelope.specs.Fields.{Span, HeaderFields, AddressingFields, absent, present, IntegrityFields, none, crc, application, Fields, Answer, accepted, refusedBy}
 use Rattle.envelope.specs.Flags.{kindOf, kindNone, kindCrc}
 use Rattle.envelope.specs.Heading.{flagsOf, variableSize, dataLength, fieldPlace, announced, HeadingAnswer, passed, refused, heading}
 use Rattle.envelope.specs.IntegrityField.{badIntegrity}
@@ -63,15 +63,15 @@ fieldsOf s =
 -- rules 5 to 7, which look at the whole message
 unfoldable pub readingWhole : List ℕ → Answer
 readingWhole s =
-    cond (wrongLength s) (refusal 5)
-    (cond (badAddresses s (variableSize s)) (refusal 6)
-    (cond (badIntegrity s (kindOf (flagsOf s)) (fieldPlace s)) (refusal 7)
+    cond (wrongLength s) (refusedBy 5)
+    (cond (badAddresses s (variableSize s)) (refusedBy 6)
+    (cond (badIntegrity s (kindOf (flagsOf s)) (fieldPlace s)) (refusedBy 7)
     (accepted (fieldsOf s))))
 
--- what follows the heading, unless the heading is broken
+-- what follows the heading, unless the heading is refused
 abbrev pub after : HeadingAnswer → Answer → Answer
-after (refused n) rest = refusal n
+after (refused n) rest = refusedBy n
 after passed rest = rest
 
 unfoldable pub reading : List ℕ → Answer
-reading s = cond (tooShort s) (refusal 1) (after (heading s) (readingWhole s))
+reading s = cond (tooShort s) (refusedBy 1) (after (heading s) (readingWhole s))

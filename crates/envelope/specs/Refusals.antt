@@ -26,15 +26,15 @@ abbrev pub toldNumbers : Numbers → RefusalNumbers
 toldNumbers n = record { number = n .number; reading = n .reading }
 
 -- the numbers of a refusal; what `numbers` of each crate's refusals promises
-abbrev pub NumbersOf : Refused → Numbers → Type 0
-NumbersOf refused r = toldNumbers r ≡ numbersOf refused
+abbrev pub TellsNumbers : Refused → Numbers → Type 0
+TellsNumbers refused r = toldNumbers r ≡ numbersOf refused
 
 -- what `Numbers::plainly` and `Numbers::passing_on` promise
 abbrev pub NumbersPlainly : ℕ → Numbers → Type 0
-NumbersPlainly n r = NumbersOf (plainly n) r
+NumbersPlainly n r = TellsNumbers (plainly n) r
 
 abbrev pub NumbersPassingOn : ℕ → CodeRefusal → Numbers → Type 0
-NumbersPassingOn n refusal r = NumbersOf (passingOn n (toldRefusal refusal)) r
+NumbersPassingOn n refusal r = TellsNumbers (passingOn n (toldRefusal refusal)) r
 
 -- ---- which refusals an operation can give: those with these numbers alone, and those that pass on reading's with these
 

@@ -18,14 +18,15 @@ use Rattle.envelope.specs.declared.rewriter.Rewriting.the-variants.{Writ
 pub data RewriteAnswer : Type 0 where
   rewrote : ℕ → RewriteAnswer
   refused : Refusal → RewriteAnswer
+  noRoom : RewriteAnswer
 
--- 15
-abbrev pub noRoom : Refusal
-noRoom = record { number = 15 }
+-- 15, the number of writing
+abbrev pub noRoomNumber : ℕ
+noRoomNumber = 15
 
 abbrev pub rewritingRead : Answer → List ℕ → ℕ → RewriteAnswer
 rewritingRead (read.refused r) s room = refused r
-rewritingRead (accepted f) s room = cond (ltb room (length s)) (refused noRoom) (rewrote (length s))
+rewritingRead (accepted f) s room = cond (ltb room (length s)) noRoom (rewrote (length s))
 
 abbrev pub rewriting : List ℕ → ℕ → RewriteAnswer
 rewriting s room = rewritingRead (reading s) s room
@@ -34,16 +35,18 @@ rewriting s room = rewritingRead (reading s) s room
 abbrev pub afterRewriting : RewriteAnswer → List ℕ → List ℕ → List ℕ
 afterRewriting (rewrote n) s entry = s ++ drop n entry
 afterRewriting (refused r) s entry = entry
+afterRewriting noRoom s entry = entry
 
 abbrev pub toldRewriting : Rewriting → RewriteAnswer
 toldRewriting (Written n) = rewrote n
 toldRewriting (Refused r) = refused (toldRefusal r)
-toldRewriting NoRoom = refused noRoom
+toldRewriting NoRoom = noRoom
 
 -- no message is longer than the longest; proved in proofs/RewriteLaws
 abbrev pub rewroteLength : RewriteAnswer → ℕ
 rewroteLength (rewrote n) = n
 rewroteLength (refused r) = 0
+rewroteLength noRoom = 0
 
 abbrev pub RewritesNoLonger : Type 0
 RewritesNoLonger = (s : List ℕ) (room : ℕ) → Bytes s → rewroteLength (rewriting s room) ≤ largestMessage

@@ -69,9 +69,9 @@ pub data WriteAnswer : Type 0 where
   wrote : ℕ → WriteAnswer
   refused : ℕ → WriteAnswer
 
-abbrev pub writeAnswer : WriteOutcome → WriteAnswer
-writeAnswer (written m) = wrote (length m)
-writeAnswer (refused n) = refused n
+abbrev pub answerToWriting : WriteOutcome → WriteAnswer
+answerToWriting (written m) = wrote (length m)
+answerToWriting (refused n) = refused n
 
 abbrev pub toldWriteFault : WriteFault → ℕ
 toldWriteFault BadFlags = 11
@@ -107,7 +107,7 @@ given header routing source destination body application =
 -- what `write` promises, of its answer and of the whole buffer afterwards
 abbrev pub Writes : Given → List ℕ → Writing → List ℕ → Type 0
 Writes g entry r exit =
-    (toldWriting r ≡ writeAnswer (writing g (length entry))) × (exit ≡ afterWriting (writing g (length entry)) entry)
+    (toldWriting r ≡ answerToWriting (writing g (length entry))) × (exit ≡ afterWriting (writing g (length entry)) entry)
 
 -- no message is longer than the longest; proved in proofs/WriteLaws
 abbrev pub wroteLength : WriteAnswer → ℕ
@@ -115,7 +115,7 @@ wroteLength (wrote n) = n
 wroteLength (refused n) = 0
 
 abbrev pub WritesNoLonger : Type 0
-WritesNoLonger = (g : Given) (room : ℕ) → wroteLength (writeAnswer (writing g room)) ≤ largestMessage
+WritesNoLonger = (g : Given) (room : ℕ) → wroteLength (answerToWriting (writing g room)) ≤ largestMessage
 
 -- a refusal leaves the buffer as it was; proved in proofs/WriteLaws
 abbrev pub RefusalWritesNothing : Type 0

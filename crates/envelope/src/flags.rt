@@ -7,9 +7,7 @@ pub const KIND_NONE: u8 = 0;
 
 pub const KIND_CRC: u8 = 1;
 
-pub const KIND_APPLICATION: u8 = 2;
-
-pub const KIND_UNASSIGNED: u8 = 3;
+const KIND_UNASSIGNED: u8 = 3;
 
 pub fn time_is_absolute(flags: u8) -> bool
     ensures { λ r. ⌜ TellsTime flags r ⌝ }

@@ -8,7 +8,7 @@ ghost use Rattle.envelope.specs.Helpers.{Allowed, pasted, variableLength
 ghost use Rattle.envelope.specs.Layout.{headerSize, largestVariable, largestAddress, largestBody};
 ghost use Rattle.envelope.specs.Message.{headerBytes, variableBytes, beforeField, fieldNumber, message};
 ghost use Rattle.envelope.specs.Told.{toldHeader};
-ghost use Rattle.envelope.specs.Writing.{badEnd, badEnds, strayIntegrity, writing, writeAnswer, toldRouting, toldWriting, NumbersWriteFault, given, Writes};
+ghost use Rattle.envelope.specs.Writing.{badEnd, badEnds, strayIntegrity, writing, answerToWriting, toldRouting, toldWriting, NumbersWriteFault, given, Writes};
 use crate::addresses::first_zero;
 use crate::fields::Envelope;
 use crate::fields::Header;
@@ -82,7 +82,7 @@ fn judge(
     application: u32,
     room: usize,
 ) -> Writing
-    ensures { λ r. ⌜ toldWriting r ≡ writeAnswer (writing (given header routing (now (source .entry)) (now (destination .entry)) (now (body .entry)) application) room) ⌝ }
+    ensures { λ r. ⌜ toldWriting r ≡ answerToWriting (writing (given header routing (now (source .entry)) (now (destination .entry)) (now (body .entry)) application) room) ⌝ }
 {
     if flags::bad_flags(header.flags) {
         return Writing::Refused(WriteFault::BadFlags);

@@ -5,7 +5,7 @@ use mathlib.Core.Path.{_≡_, refl}
 use Prim.Native.Nat.{ℕ, _+_, _*_, _/_, _%_, _≤_, _<_, _^_}
 use native.Mathlib.Omega.{arith}
 use Rattle.envelope.specs.Layout.{largestMessage}
-use Rattle.envelope.specs.Rewriting.{RewriteAnswer, rewrote, refused, rewriting, rewroteLength}
+use Rattle.envelope.specs.Rewriting.{RewriteAnswer, rewrote, refused, noRoom, rewriting, rewroteLength}
 use Rattle.envelope.specs.Message.{Given}
 use Rattle.envelope.specs.Promise.{Bytes}
 use Rattle.envelope.specs.Writing.{WriteAnswer, wrote, refused, writing, wroteLength}
@@ -22,7 +22,7 @@ use Rattle.frame.specs.Wrapping.{WrapAnswer, wrapping, acknowledging}
 use Rattle.frame.specs.Wrapping as wrap
 use Rattle.frame.proofs.SizeLaws.{unwraps-no-longer, wraps-no-longer, acknowledges-no-longer}
 use Rattle.golden.specs.Checking.{CheckAnswer, counted, refused, checking}
-use Rattle.golden.specs.Comparing.{CompareAnswer, same, different, refused, comparing, compareAnswer}
+use Rattle.golden.specs.Comparing.{CompareAnswer, same, different, refused, comparing, answerToComparing}
 use Rattle.golden.specs.File.{mostRecords}
 use Rattle.golden.specs.Finding.{NameFields, FindAnswer, found, finding}
 use Rattle.golden.specs.Finding as find
@@ -45,12 +45,13 @@ write-in : (a : WriteAnswer) → wroteLength a ≤ largestMessage → writeSlots
 write-in (wrote n) h = omega (arith, h)
 write-in (refused n) h = omega arith
 
-pub write-fits : (g : Given) (room : ℕ) (a : WriteAnswer) → a ≡ write.writeAnswer (writing g room) → writeSlots a .value < 2 ^ 32
-write-fits g room a e = rw e (write-in (write.writeAnswer (writing g room)) (writes-no-longer g room))
+pub write-fits : (g : Given) (room : ℕ) (a : WriteAnswer) → a ≡ write.answerToWriting (writing g room) → writeSlots a .value < 2 ^ 32
+write-fits g room a e = rw e (write-in (write.answerToWriting (writing g room)) (writes-no-longer g room))
 
 rewrite-in : (a : RewriteAnswer) → rewroteLength a ≤ largestMessage → rewriteSlots a .value < 2 ^ 32
 rewrite-in (rewrote n) h = omega (arith, h)
 rewrite-in (refused r) h = omega arith
+rewrite-in noRoom h = omega arith
 
 pub rewrite-fits : (s : List ℕ) (room : ℕ) (a : RewriteAnswer) → Bytes s → a ≡ rewriting s room → rewriteSlots a .value < 2 ^ 32
 rewrite-fits s room a bytes e = rw e (rewrite-in (rewriting s room) (rewrites-no-longer s room bytes))
@@ -91,9 +92,9 @@ compare-in same h = omega arith
 compare-in (different n) h = omega (arith, h)
 compare-in (refused r) h = omega arith
 
-pub compare-fits : (f : List ℕ) (n : ℕ) (radio : List ℕ) (a : CompareAnswer) → Bytes radio → a ≡ compareAnswer (comparing f n radio)
+pub compare-fits : (f : List ℕ) (n : ℕ) (radio : List ℕ) (a : CompareAnswer) → Bytes radio → a ≡ answerToComparing (comparing f n radio)
     → compareSlots a .value < 2 ^ 32
-compare-fits f n radio a bytes e = rw e (compare-in (compareAnswer (comparing f n radio)) (compare-totals-few f n radio bytes))
+compare-fits f n radio a bytes e = rw e (compare-in (answerToComparing (comparing f n radio)) (compare-totals-few f n radio bytes))
 
 found-value : (a : Finding) (used : ℕ) → foundSlots a used .value ≡ foundSize a
 found-value nothing used = refl
@@ -118,11 +119,11 @@ wrap-in : (a : WrapAnswer) → wroteFrame a ≤ leastSize + largestMessage → w
 wrap-in (wrap.wrote n) h = omega (arith, h)
 wrap-in (wrap.refused r) h = omega arith
 
-pub wrap-fits : (m : List ℕ) (commid room : ℕ) (a : WrapAnswer) → Bytes m → a ≡ wrap.wrapAnswer (wrapping m commid room) → wrapSlots a .value < 2 ^ 32
-wrap-fits m commid room a bytes e = rw e (wrap-in (wrap.wrapAnswer (wrapping m commid room)) (wraps-no-longer m commid room bytes))
+pub wrap-fits : (m : List ℕ) (commid room : ℕ) (a : WrapAnswer) → Bytes m → a ≡ wrap.answerToWrapping (wrapping m commid room) → wrapSlots a .value < 2 ^ 32
+wrap-fits m commid room a bytes e = rw e (wrap-in (wrap.answerToWrapping (wrapping m commid room)) (wraps-no-longer m commid room bytes))
 
-pub acknowledge-fits : (commid acknowledged room : ℕ) (a : WrapAnswer) → a ≡ wrap.wrapAnswer (acknowledging commid acknowledged room) → wrapSlots a .value < 2 ^ 32
-acknowledge-fits commid acknowledged room a e = rw e (wrap-in (wrap.wrapAnswer (acknowledging commid acknowledged room)) (acknowledges-no-longer commid acknowledged room))
+pub acknowledge-fits : (commid acknowledged room : ℕ) (a : WrapAnswer) → a ≡ wrap.answerToWrapping (acknowledging commid acknowledged room) → wrapSlots a .value < 2 ^ 32
+acknowledge-fits commid acknowledged room a e = rw e (wrap-in (wrap.answerToWrapping (acknowledging commid acknowledged room)) (acknowledges-no-longer commid acknowledged room))
 
 -- ---- the slots come back
 

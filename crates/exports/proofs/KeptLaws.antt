@@ -8,7 +8,7 @@ use lib.Dec.{eqb}
 use lib.ListN.{length}
 use Rattle.envelope.specs.Fields.{Answer, accepted, refused}
 use Rattle.envelope.specs.Reading.{reading}
-use Rattle.envelope.specs.Rewriting.{RewriteAnswer, rewrote, refused, rewriting, afterRewriting}
+use Rattle.envelope.specs.Rewriting.{RewriteAnswer, rewrote, refused, noRoom, rewriting, afterRewriting}
 use Rattle.envelope.specs.Writing as write
 use Rattle.feed.specs.Feeding.{Finding, nothing, message, refused}
 use Rattle.frame.specs.Unwrapping.{UnwrapAnswer, unwrapping}
@@ -43,7 +43,7 @@ kept-read (refused n) entry exit r e x h = x
 pub read-keeps : ReadKeeps
 read-keeps bytes entry r exit p h = kept-read (reading bytes) entry exit r (p .0) (p .1) h
 
-kept-write : (o : write.WriteOutcome) (entry exit : List ℕ) (r : ℕ) → r ≡ word (writeSlots (write.writeAnswer o)) → exit ≡ write.afterWriting o entry → IsRefusal r → exit ≡ entry
+kept-write : (o : write.WriteOutcome) (entry exit : List ℕ) (r : ℕ) → r ≡ word (writeSlots (write.answerToWriting o)) → exit ≡ write.afterWriting o entry → IsRefusal r → exit ≡ entry
 kept-write (write.written m) entry exit r e x h = absurd (no-refusal _ r refl e h)
 kept-write (write.refused n) entry exit r e x h = x
 
@@ -53,6 +53,7 @@ write-keeps g entry r exit p h = kept-write (write.writing g (length entry)) ent
 kept-rewrite : (a : RewriteAnswer) (s entry exit : List ℕ) (r : ℕ) → r ≡ word (rewriteSlots a) → exit ≡ afterRewriting a s entry → IsRefusal r → exit ≡ entry
 kept-rewrite (rewrote n) s entry exit r e x h = absurd (no-refusal _ r refl e h)
 kept-rewrite (refused n) s entry exit r e x h = x
+kept-rewrite noRoom s entry exit r e x h = x
 
 pub rewrite-keeps : RewriteKeeps
 rewrite-keeps bytes entry r exit p h = kept-rewrite (rewriting bytes (length entry)) bytes entry exit r (p .0) (p .1) h
@@ -76,8 +77,8 @@ told-done : (b : Bool) (n : ℕ) → compareSlots (cond b compare.same (compare.
 told-done true n = refl
 told-done false n = refl
 
-kept-compare : (o : compare.CompareOutcome) (entry exit : List ℕ) (r : ℕ) → r ≡ word (compareSlots (compare.compareAnswer o)) → exit ≡ afterComparing o entry → IsRefusal r → exit ≡ entry
-unfolding compare.compareAnswer afterComparing
+kept-compare : (o : compare.CompareOutcome) (entry exit : List ℕ) (r : ℕ) → r ≡ word (compareSlots (compare.answerToComparing o)) → exit ≡ afterComparing o entry → IsRefusal r → exit ≡ entry
+unfolding compare.answerToComparing afterComparing
 kept-compare (compare.positions ks) entry exit r e x h = absurd (no-refusal _ r (told-done (eqb (length ks) 0) (length ks)) e h)
 kept-compare (compare.refused n) entry exit r e x h = x
 

@@ -12,10 +12,10 @@ use Rattle.envelope.specs.Message.{RoutingFields, unaddressed, addressed, Given
 use Rattle.envelope.specs.Qos.{QosFields, QosAnswer, joined, splitting, joining}
 use Rattle.envelope.specs.Qos as qos
 use Rattle.envelope.specs.Reading.{reading}
-use Rattle.envelope.specs.Rewriting.{RewriteAnswer, rewrote, rewriting, afterRewriting}
+use Rattle.envelope.specs.Rewriting.{RewriteAnswer, rewrote, noRoom, noRoomNumber, rewriting, afterRewriting}
 use Rattle.envelope.specs.Rewriting as rewriting
 use Rattle.envelope.specs.Sequence.{SequenceAnswer, repeat, next, ahead, behind, distance, sequenceOf}
-use Rattle.envelope.specs.Writing.{WriteAnswer, wrote, writing, writeAnswer, afterWriting}
+use Rattle.envelope.specs.Writing.{WriteAnswer, wrote, writing, answerToWriting, afterWriting}
 use Rattle.envelope.specs.Writing as write
 use Rattle.exports.specs.Word.{Slots, slots, word, done, sized, plainSlots, readingSlots}
 
@@ -112,11 +112,12 @@ givenForC messageType version flags number time given ttl qos source destination
 -- what `morlewen_write` promises
 abbrev pub WritesForC : Given → List ℕ → ℕ → List ℕ → Type 0
 WritesForC g entry r exit =
-    (r ≡ word (writeSlots (writeAnswer (writing g (length entry))))) × (exit ≡ afterWriting (writing g (length entry)) entry)
+    (r ≡ word (writeSlots (answerToWriting (writing g (length entry))))) × (exit ≡ afterWriting (writing g (length entry)) entry)
 
 abbrev pub rewriteSlots : RewriteAnswer → Slots
 rewriteSlots (rewrote n) = sized n
 rewriteSlots (rewriting.refused r) = readingSlots r
+rewriteSlots noRoom = plainSlots noRoomNumber
 
 -- what `morlewen_rewrite` promises
 abbrev pub RewritesForC : List ℕ → List ℕ → ℕ → List ℕ → Type 0

@@ -6,7 +6,7 @@ use mathlib.Core.Path.{_≡_}
 use lib.ListN.{length}
 use Rattle.frame.specs.Layout.{dataType, acknowledgmentType}
 use Rattle.frame.specs.Unwrapping.{UnwrapAnswer, message, acknowledgment, refused, unwrapping}
-use Rattle.frame.specs.Wrapping.{WrapOutcome, WrapAnswer, wrote, wrapAnswer, afterWrapping, wrapping, acknowledging}
+use Rattle.frame.specs.Wrapping.{WrapOutcome, WrapAnswer, wrote, answerToWrapping, afterWrapping, wrapping, acknowledging}
 use Rattle.frame.specs.Wrapping as wrap
 use Rattle.exports.specs.Envelopes.{fieldNumbers}
 use Rattle.exports.specs.Word.{Slots, slots, word, sized, refusedWith}
@@ -52,7 +52,7 @@ wrapSlots (wrap.refused r) = refusedWith r 0
 
 -- an outcome told in a word, and the buffer afterwards
 abbrev pub WritesFrameForC : WrapOutcome → List ℕ → ℕ → List ℕ → Type 0
-WritesFrameForC o entry r exit = (r ≡ word (wrapSlots (wrapAnswer o))) × (exit ≡ afterWrapping o entry)
+WritesFrameForC o entry r exit = (r ≡ word (wrapSlots (answerToWrapping o))) × (exit ≡ afterWrapping o entry)
 
 -- what `morlewen_wrap` promises
 abbrev pub WrapsForC : List ℕ → ℕ → List ℕ → ℕ → List ℕ → Type 0

@@ -5,7 +5,7 @@ use mathlib.Core.List.{List, [], _∷_}
 use mathlib.Core.Path.{_≡_}
 use lib.ListN.{length}
 use Rattle.golden.specs.Checking.{CheckAnswer, counted, refused, checking}
-use Rattle.golden.specs.Comparing.{CompareAnswer, same, different, comparing, compareAnswer, afterComparing}
+use Rattle.golden.specs.Comparing.{CompareAnswer, same, different, comparing, answerToComparing, afterComparing}
 use Rattle.golden.specs.Comparing as compare
 use Rattle.golden.specs.Finding.{NameFields, FindAnswer, found, finding}
 use Rattle.golden.specs.Finding as find
@@ -89,7 +89,7 @@ compareSlots (compare.refused r) = refusedWith r 0
 -- what `morlewen_compare` promises
 abbrev pub ComparesForC : List ℕ → ℕ → List ℕ → List ℕ → ℕ → List ℕ → Type 0
 ComparesForC f n radio entry r exit =
-    (r ≡ word (compareSlots (compareAnswer (comparing f n radio)))) × (exit ≡ afterComparing (comparing f n radio) entry)
+    (r ≡ word (compareSlots (answerToComparing (comparing f n radio)))) × (exit ≡ afterComparing (comparing f n radio) entry)
 
 -- ---- make
 

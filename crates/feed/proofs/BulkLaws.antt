@@ -9,7 +9,7 @@ use lib.ListN.{length, take, drop, take-append-drop}
 use lib.Seq.{sets, length-take-le, length-sets, drop-length}
 use Rattle.envelope.proofs.AnnouncingLaws.{announces-says}
 use Rattle.envelope.specs.Announcing.{announces, announcing}
-use Rattle.envelope.specs.Fields.{Answer, accepted, refused as unread}
+use Rattle.envelope.specs.Fields.{Answer, accepted, refused as refusedMessage}
 use Rattle.envelope.specs.Layout.{headerSize}
 use Rattle.envelope.specs.Reading.{reading}
 use Rattle.feed.specs.Feeding.{FeedOutcome, closing, furtherBy, nothing, taking}
@@ -39,7 +39,7 @@ more-at k n used rest e r =
 
 settled-closes : (a : Answer) (k : List ℕ) (n used : ℕ) (later : FeedOutcome) → onFrom (settled a) k n used later ≡ closing (settled a) k n used
 settled-closes (accepted f) k n used later = refl
-settled-closes (unread r) k n used later = refl
+settled-closes (refusedMessage r) k n used later = refl
 
 pub whole-at : (k : List ℕ) (n used : ℕ) (rest : List ℕ) (w : ℕ) → announcing (take n k) ≡ announces w → w ≤ room → w ≤ n → n ≤ length k
     → closing (settled (reading (take n k))) k n used ≡ outcomeAt k n used rest

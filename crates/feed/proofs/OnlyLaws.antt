@@ -19,25 +19,25 @@ use Rattle.feed.specs.declared.step.Standing.{Standing}
 use Rattle.feed.specs.declared.step.Standing.the-variants.{Inside, Whole, Refused}
 use Rattle.feed.specs.declared.step.Step.{Step}
 
-abbrev untoldFeedFault : FeedRefusal → CodeRefusal
-untoldFeedFault (reads r) = MessageRefused (untoldRefusal r)
-untoldFeedFault tooLong = TooLong
-untoldFeedFault cut = Cut
+abbrev untoldFeedRefusal : FeedRefusal → CodeRefusal
+untoldFeedRefusal (reads r) = MessageRefused (untoldRefusal r)
+untoldFeedRefusal tooLong = TooLong
+untoldFeedRefusal cut = Cut
 
-pub untold-feed-fault : (f : CodeRefusal) → untoldFeedFault (toldFeedRefusal f) ≡ f
-untold-feed-fault (MessageRefused r) = ap MessageRefused (untold-refusal r)
-untold-feed-fault TooLong = refl
-untold-feed-fault Cut = refl
+pub untold-feed-refusal : (f : CodeRefusal) → untoldFeedRefusal (toldFeedRefusal f) ≡ f
+untold-feed-refusal (MessageRefused r) = ap MessageRefused (untold-refusal r)
+untold-feed-refusal TooLong = refl
+untold-feed-refusal Cut = refl
 
 abbrev pub untoldStanding : Stand → Standing
 untoldStanding inside = Inside
 untoldStanding whole = Whole
-untoldStanding (refused f) = Refused (untoldFeedFault f)
+untoldStanding (refused f) = Refused (untoldFeedRefusal f)
 
 pub untold-standing : (s : Standing) → untoldStanding (toldStanding s) ≡ s
 untold-standing Inside = refl
 untold-standing Whole = refl
-untold-standing (Refused f) = ap Refused (untold-feed-fault f)
+untold-standing (Refused f) = ap Refused (untold-feed-refusal f)
 
 abbrev pub untoldFeed : State → Feed
 untoldFeed s = record { kept = s .kept; count = s .count; standing = untoldStanding (s .stand) }
@@ -48,12 +48,12 @@ untold-feed f = λ i. record { kept = f .kept; count = f .count; standing = unto
 abbrev pub untoldFound : Finding → Found
 untoldFound nothing = Nothing
 untoldFound (message n f) = Message n (untoldEnvelope f)
-untoldFound (refused f) = FoundRefused (untoldFeedFault f)
+untoldFound (refused f) = FoundRefused (untoldFeedRefusal f)
 
 pub untold-found : (f : Found) → untoldFound (toldFound f) ≡ f
 untold-found Nothing = refl
 untold-found (Message n e) = ap (Message n) (untold-envelope e)
-untold-found (FoundRefused f) = ap FoundRefused (untold-feed-fault f)
+untold-found (FoundRefused f) = ap FoundRefused (untold-feed-refusal f)
 
 abbrev untoldTaken : FeedOutcome → Taken
 untoldTaken o = record { feed = untoldFeed (o .state); used = o .used; found = untoldFound (o .finding) }

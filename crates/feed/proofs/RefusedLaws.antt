@@ -23,7 +23,7 @@ use Rattle.feed.proofs.LaidLaws.{in-length}
 use Rattle.feed.proofs.RunLaws.{Byte, repeats, goes-in, byte, streaming-nil, streaming-cons, as-defined}
 use Rattle.feed.proofs.StandLaws.{begun-room}
 use Rattle.feed.proofs.VerdictLaws.{verdict-by, verdict-short, verdict-whole, announcing-grown}
-use Rattle.feed.proofs.WeighedLaws.{bad-not-complete, more-not-bad, same-fault, settled-not-more, Weighed, too-long, not-yet, all-in, weigh}
+use Rattle.feed.proofs.WeighedLaws.{refused-not-complete, more-not-refused, same-refusal, settled-not-more, Weighed, too-long, not-yet, all-in, weigh}
 
 -- ---- where a refusal is told
 
@@ -38,13 +38,13 @@ pub expects : (p : List ℕ) → verdict p ≡ more → headerSize ≤ length p 
 expects p v h = go (announcing p) refl
   where
     by : (w : ℕ) → announcing p ≡ announces w → Weighed p w → Expects p
-    by w a (too-long l e) = absurd (more-not-bad tooLong (sym v ∙ e))
+    by w a (too-long l e) = absurd (more-not-refused tooLong (sym v ∙ e))
     by w a (not-yet l k e) = record { whole = w; says = a; fits = l; missing = k }
     by w a (all-in l k e) = absurd (settled-not-more (reading p) (sym e ∙ v))
 
     go : (a : AnnouncementAnswer) → announcing p ≡ a → Expects p
     go unfinished e = absurd (omega (arith, announced.unfinished-short p e))
-    go (refusedHeading r) e = absurd (more-not-bad (reads r) (sym v ∙ verdict-by p (refusedHeading r) e))
+    go (refusedHeading r) e = absurd (more-not-refused (reads r) (sym v ∙ verdict-by p (refusedHeading r) e))
     go (announces w) e = by w e (weigh p w e)
 
 heading-number : (n : ℕ) → announced.HeadingNumber n → HeadingNumber n
@@ -56,14 +56,14 @@ bad-heading : (m : List ℕ) (f : FeedRefusal) → verdict m ≡ refused f → l
 bad-heading m f v h = go (announcing m) refl
   where
     by : (w : ℕ) → announcing m ≡ announces w → Weighed m w → HeadingNumber (numberOf f)
-    by w a (too-long l e) = is-51 (ap numberOf (same-fault f tooLong (sym v ∙ e)))
-    by w a (not-yet l k e) = absurd (more-not-bad f (sym e ∙ v))
+    by w a (too-long l e) = is-51 (ap numberOf (same-refusal f tooLong (sym v ∙ e)))
+    by w a (not-yet l k e) = absurd (more-not-refused f (sym e ∙ v))
     by w a (all-in l k e) = absurd (omega (arith, announced.announces-least m w a))
 
     go : (a : AnnouncementAnswer) → announcing m ≡ a → HeadingNumber (numberOf f)
-    go unfinished e = absurd (more-not-bad f (sym (verdict-by m unfinished e) ∙ v))
+    go unfinished e = absurd (more-not-refused f (sym (verdict-by m unfinished e) ∙ v))
     go (refusedHeading r) e =
-        rw (same-fault f (reads r) (sym v ∙ verdict-by m (refusedHeading r) e)) (heading-number (r .number) (announced.refused-number m r e))
+        rw (same-refusal f (reads r) (sym v ∙ verdict-by m (refusedHeading r) e)) (heading-number (r .number) (announced.refused-number m r e))
     go (announces w) e = by w e (weigh m w e)
 
 bad-whole : (m : List ℕ) (f : FeedRefusal) → verdict m ≡ refused f → length m ≤ room → announcing m ≡ announces (length m) → WholeNumber (numberOf f)
@@ -73,9 +73,9 @@ bad-whole m f v h a = go (announced.announced-completed m a)
     at = verdict-whole m (length m) a h (omega arith)
 
     go : Completed m → WholeNumber (numberOf f)
-    go (accepts-it g e) = absurd (bad-not-complete f g (sym v ∙ at ∙ ap settled e))
-    go (refuses-6 e) = is-6 (ap numberOf (same-fault f _ (sym v ∙ at ∙ ap settled e)))
-    go (refuses-7 e) = is-7 (ap numberOf (same-fault f _ (sym v ∙ at ∙ ap settled e)))
+    go (accepts-it g e) = absurd (refused-not-complete f g (sym v ∙ at ∙ ap settled e))
+    go (refuses-6 e) = is-6 (ap numberOf (same-refusal f _ (sym v ∙ at ∙ ap settled e)))
+    go (refuses-7 e) = is-7 (ap numberOf (same-refusal f _ (sym v ∙ at ∙ ap settled e)))
 
 -- the byte that brought a refusal, where nothing was settled before it
 settles-at : (k : List ℕ) (n x : ℕ) (f : FeedRefusal) → length k ≡ room → n < room → (0 < n → verdict (take n k) ≡ more)
@@ -88,7 +88,7 @@ settles-at k n x f hk h quiet v = go (ltb n headerSize) refl (ltb (suc n) header
     by : (e : Expects (take n k)) → length (take n k) ≡ n → announcing (take (suc n) (set k n x)) ≡ announces (e .whole)
         → Weighed (take (suc n) (set k n x)) (e .whole) → Settles (take (suc n) (set k n x)) (numberOf f)
     by e front a (too-long l q) = absurd (omega (arith, e .fits))
-    by e front a (not-yet l j q) = absurd (more-not-bad f (sym q ∙ v))
+    by e front a (not-yet l j q) = absurd (more-not-refused f (sym q ∙ v))
     by e front a (all-in l j q) =
         let end : e .whole ≡ length (take (suc n) (set k n x)) = omega (arith, size, e .missing) in
         let a' = a ∙ ap announces end in
@@ -102,7 +102,7 @@ settles-at k n x f hk h quiet v = go (ltb n headerSize) refl (ltb (suc n) header
         by e front a (weigh (take (suc n) (set k n x)) (e .whole) a)
 
     go : (b : Bool) → ltb n headerSize ≡ b → (d : Bool) → ltb (suc n) headerSize ≡ d → Settles (take (suc n) (set k n x)) (numberOf f)
-    go b eb true ed = absurd (more-not-bad f (sym (verdict-short (take (suc n) (set k n x)) (omega (arith, size, ltb-true (suc n) headerSize ed))) ∙ v))
+    go b eb true ed = absurd (more-not-refused f (sym (verdict-short (take (suc n) (set k n x)) (omega (arith, size, ltb-true (suc n) headerSize ed))) ∙ v))
     go true eb false ed =
         let end : length (take (suc n) (set k n x)) ≡ headerSize = omega (arith, size, ltb-true n headerSize eb, ltb-false (suc n) headerSize ed) in
         at-17 end (bad-heading (take (suc n) (set k n x)) f v end)

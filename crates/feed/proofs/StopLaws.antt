@@ -11,7 +11,7 @@ use Rattle.feed.specs.Verdict.{FeedRefusal, Verdict, more, complete, ref
 use Rattle.feed.specs.declared.refusal.Refusal.the-variants.{Cut}
 use Rattle.feed.specs.declared.step.Found.the-variants.{Nothing, Refused as FoundRefused}
 use Rattle.feed.specs.declared.step.Standing.the-variants.{Refused}
-use Rattle.feed.proofs.OnlyLaws.{untold-standing, untoldStanding, untoldFound, untold-found, untold-feed-fault, same-feed, only-fresh, only-takes, only-ends}
+use Rattle.feed.proofs.OnlyLaws.{untold-standing, untoldStanding, untoldFound, untold-found, untold-feed-refusal, same-feed, only-fresh, only-takes, only-ends}
 use Rattle.feed.proofs.RefusedLaws.{whole-not-refused}
 use Rattle.feed.proofs.RunLaws.{Byte, repeats, goes-in, byte}
 use Rattle.feed.proofs.StandLaws.{still-as, refused-takes, end-none, end-some}
@@ -62,13 +62,13 @@ pub refusal-is-kept : RefusalIsKept
 refusal-is-kept f fault piece t p e =
     let stands : Stands (toldTaken t) (toldFeedRefusal fault) =
     subst (λ (o : FeedOutcome). Stands o (toldFeedRefusal fault)) (sym p) (taking-stands piece (toldFeed f) (toldFeedRefusal fault)) in
-    sym (untold-standing (t .feed .standing)) ∙ ap untoldStanding (stands (ap toldFound e)) ∙ ap Refused (untold-feed-fault fault)
+    sym (untold-standing (t .feed .standing)) ∙ ap untoldStanding (stands (ap toldFound e)) ∙ ap Refused (untold-feed-refusal fault)
 
 pub end-is-kept : EndIsKept
 end-is-kept f fault t p e =
     let stands : Stands (toldEnded t) (toldFeedRefusal fault) =
     subst (λ (o : FeedOutcome). Stands o (toldFeedRefusal fault)) (sym p) (ending-stands (toldFeed f) (toldFeedRefusal fault)) in
-    sym (untold-standing (t .feed .standing)) ∙ ap untoldStanding (stands (ap toldFound e)) ∙ ap Refused (untold-feed-fault fault)
+    sym (untold-standing (t .feed .standing)) ∙ ap untoldStanding (stands (ap toldFound e)) ∙ ap Refused (untold-feed-refusal fault)
 
 -- ---- and one that stands was told
 
@@ -93,7 +93,7 @@ pub refusal-is-told : RefusalIsTold
 refusal-is-told f fault piece t p e =
     let tells : Tells (toldTaken t) (toldFeedRefusal fault) =
     subst (λ (o : FeedOutcome). Tells o (toldFeedRefusal fault)) (sym p) (taking-tells piece (toldFeed f) (toldFeedRefusal fault)) in
-    sym (untold-found (t .found)) ∙ ap untoldFound (tells (ap toldStanding e)) ∙ ap FoundRefused (untold-feed-fault fault)
+    sym (untold-found (t .found)) ∙ ap untoldFound (tells (ap toldStanding e)) ∙ ap FoundRefused (untold-feed-refusal fault)
 
 -- ---- while it stands
 

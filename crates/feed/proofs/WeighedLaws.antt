@@ -9,7 +9,7 @@ use borrow.Author.Tests.{ltb-true, ltb-false}
 use lib.Dec.{ltb}
 use lib.ListN.{length}
 use Rattle.envelope.specs.Announcing.{AnnouncementAnswer, unfinished, refused as refusedHeading, announces, announcing}
-use Rattle.envelope.specs.Fields.{Fields, Answer, accepted, refused as unread}
+use Rattle.envelope.specs.Fields.{Fields, Answer, accepted, refused as refusedMessage}
 use Rattle.envelope.specs.Reading.{reading}
 use Rattle.feed.specs.Verdict.{room, FeedRefusal, reads, tooLong, more, complete, refused, settled, verdict}
 use Rattle.feed.proofs.VerdictLaws.{verdict-by, verdict-too-long, verdict-more, verdict-whole}
@@ -19,22 +19,22 @@ use Rattle.feed.proofs.VerdictLaws.{verdict-by, verdict-too-long, verdi
 pub more-not-complete : (f : Fields) → more ≡ complete f → ⊥
 more-not-complete f e = let z : _≡_ {A = ℕ} 0 1 = cc in omega arith
 
-pub bad-not-complete : (f : FeedRefusal) (g : Fields) → refused f ≡ complete g → ⊥
-bad-not-complete f g e = let z : _≡_ {A = ℕ} 0 1 = cc in omega arith
+pub refused-not-complete : (f : FeedRefusal) (g : Fields) → refused f ≡ complete g → ⊥
+refused-not-complete f g e = let z : _≡_ {A = ℕ} 0 1 = cc in omega arith
 
-pub more-not-bad : (f : FeedRefusal) → more ≡ refused f → ⊥
-more-not-bad f e = let z : _≡_ {A = ℕ} 0 1 = cc in omega arith
+pub more-not-refused : (f : FeedRefusal) → more ≡ refused f → ⊥
+more-not-refused f e = let z : _≡_ {A = ℕ} 0 1 = cc in omega arith
 
-pub same-fault : (f g : FeedRefusal) → refused f ≡ refused g → f ≡ g
-same-fault f g e = cc
+pub same-refusal : (f g : FeedRefusal) → refused f ≡ refused g → f ≡ g
+same-refusal f g e = cc
 
 settled-complete : (a : Answer) (f : Fields) → settled a ≡ complete f → a ≡ accepted f
 settled-complete (accepted g) f e = cc
-settled-complete (unread r) f e = absurd (bad-not-complete (reads r) f e)
+settled-complete (refusedMessage r) f e = absurd (refused-not-complete (reads r) f e)
 
 pub settled-not-more : (a : Answer) → settled a ≡ more → ⊥
 settled-not-more (accepted f) e = more-not-complete f (sym e)
-settled-not-more (unread r) e = more-not-bad (reads r) (sym e)
+settled-not-more (refusedMessage r) e = more-not-refused (reads r) (sym e)
 
 -- ---- a verdict on an announced length, in its three cases
 
@@ -62,11 +62,11 @@ pub complete-accepts : (m : List ℕ) (f : Fields) → verdict m ≡ complete f 
 complete-accepts m f v = go (announcing m) refl
   where
     by : (w : ℕ) → Weighed m w → reading m ≡ accepted f
-    by w (too-long l e) = absurd (bad-not-complete tooLong f (sym e ∙ v))
+    by w (too-long l e) = absurd (refused-not-complete tooLong f (sym e ∙ v))
     by w (not-yet l k e) = absurd (more-not-complete f (sym e ∙ v))
     by w (all-in l k e) = settled-complete (reading m) f (sym e ∙ v)
 
     go : (a : AnnouncementAnswer) → announcing m ≡ a → reading m ≡ accepted f
     go unfinished e = absurd (more-not-complete f (sym (verdict-by m unfinished e) ∙ v))
-    go (refusedHeading r) e = absurd (bad-not-complete (reads r) f (sym (verdict-by m (refusedHeading r) e) ∙ v))
+    go (refusedHeading r) e = absurd (refused-not-complete (reads r) f (sym (verdict-by m (refusedHeading r) e) ∙ v))
     go (announces w) e = by w (weigh m w e)

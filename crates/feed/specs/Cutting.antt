@@ -33,7 +33,7 @@ callThen t c = record { found = foundIn (toldTaken t) ++ c .found; used = t .use
 -- first in what follows. The run is over when no byte is left, or a refusal stands.
 pub data Calls : Feed → List ℕ → Came → Type 0 where
   over : {f : Feed} → Calls f [] (noCalls f)
-  stopped : {f : Feed} {bytes : List ℕ} (fault : CodeRefusal) → f .standing ≡ Refused fault → Calls f bytes (noCalls f)
+  stopped : {f : Feed} {bytes : List ℕ} (refusal : CodeRefusal) → f .standing ≡ Refused refusal → Calls f bytes (noCalls f)
   call : {f : Feed} {bytes : List ℕ} {c : Came} (piece rest : List ℕ) (t : Taken)
       → bytes ≡ piece ++ rest → Takes f piece t → Calls (t .feed) (drop (t .used) piece ++ rest) c
       → Calls f bytes (callThen t c)

@@ -113,17 +113,17 @@ FoundAtItsLastByte = (f : Feed) (p q : List ℕ) (c d : Came) → Between (toldF
 -- refused when p ++ q is in, whatever follows: silent while a byte of it is missing, and nothing of what follows is used
 abbrev pub RefusedWith : (List ℕ → Type 0) → Type 0
 RefusedWith Settling =
-    (f : Feed) (p q rest : List ℕ) (fault : FeedRefusal) (c d : Came) → Between (toldFeed f) → Settling (p ++ q) → verdict (p ++ q) ≡ refused fault
+    (f : Feed) (p q rest : List ℕ) (refusal : FeedRefusal) (c d : Came) → Between (toldFeed f) → Settling (p ++ q) → verdict (p ++ q) ≡ refused refusal
     → Calls f p c → Calls f ((p ++ q) ++ rest) d
-    → (0 < length q → Silent p c) × (d .found ≡ []) × SettledAt f (p ++ q) (refused fault) d
+    → (0 < length q → Silent p c) × (d .found ≡ []) × SettledAt f (p ++ q) (refused refusal) d
 
 -- a call that is lent such bytes, and whatever behind them
 abbrev pub RefusedInOnePiece : (List ℕ → Type 0) → Type 0
 RefusedInOnePiece Settling =
-    (f : Feed) (m rest : List ℕ) (fault : CodeRefusal) → Between (toldFeed f) → Settling m → verdict m ≡ refused (toldFeedRefusal fault)
-    → Takes f (m ++ rest) (record { feed = record { kept = sets (f .kept) 0 m; count = length m; standing = Refused fault }; used = length m; found = FoundRefused fault })
+    (f : Feed) (m rest : List ℕ) (refusal : CodeRefusal) → Between (toldFeed f) → Settling m → verdict m ≡ refused (toldFeedRefusal refusal)
+    → Takes f (m ++ rest) (record { feed = record { kept = sets (f .kept) 0 m; count = length m; standing = Refused refusal }; used = length m; found = FoundRefused refusal })
 
--- a fault of the heading, with the 17th byte
+-- a refused heading, with the 17th byte
 abbrev pub OfThe17th : List ℕ → Type 0
 OfThe17th m = length m ≡ headerSize
 
@@ -156,5 +156,5 @@ pub data Settles (m : List ℕ) (n : ℕ) : Type 0 where
 
 -- whatever run from a new feed: the bytes that are in of the refused message
 abbrev pub WhereRefused : Type 0
-WhereRefused = (f : Feed) (bytes : List ℕ) (c : Came) (fault : CodeRefusal) → Fresh f → Calls f bytes c → c .feed .standing ≡ Refused fault
-    → Settles (take (c .feed .count) (c .feed .kept)) (numberOf (toldFeedRefusal fault))
+WhereRefused = (f : Feed) (bytes : List ℕ) (c : Came) (refusal : CodeRefusal) → Fresh f → Calls f bytes c → c .feed .standing ≡ Refused refusal
+    → Settles (take (c .feed .count) (c .feed .kept)) (numberOf (toldFeedRefusal refusal))

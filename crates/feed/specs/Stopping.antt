@@ -16,20 +16,20 @@ use Rattle.feed.specs.declared.step.Standing.the-variants.{Refused}
 
 -- a refusal that a call tells stands from then on
 abbrev pub RefusalIsKept : Type 0
-RefusalIsKept = (f : Feed) (fault : CodeRefusal) (piece : List ℕ) (t : Taken) → Takes f piece t → t .found ≡ FoundRefused fault → t .feed .standing ≡ Refused fault
+RefusalIsKept = (f : Feed) (refusal : CodeRefusal) (piece : List ℕ) (t : Taken) → Takes f piece t → t .found ≡ FoundRefused refusal → t .feed .standing ≡ Refused refusal
 
 -- and one that stands after a call was told by it, wherever the bytes are cut
 abbrev pub RefusalIsTold : Type 0
-RefusalIsTold = (f : Feed) (fault : CodeRefusal) (piece : List ℕ) (t : Taken) → Takes f piece t → t .feed .standing ≡ Refused fault → t .found ≡ FoundRefused fault
+RefusalIsTold = (f : Feed) (refusal : CodeRefusal) (piece : List ℕ) (t : Taken) → Takes f piece t → t .feed .standing ≡ Refused refusal → t .found ≡ FoundRefused refusal
 
 -- the end's stands from then on too
 abbrev pub EndIsKept : Type 0
-EndIsKept = (f : Feed) (fault : CodeRefusal) (e : Ended) → Ends f e → e .found ≡ FoundRefused fault → e .feed .standing ≡ Refused fault
+EndIsKept = (f : Feed) (refusal : CodeRefusal) (e : Ended) → Ends f e → e .found ≡ FoundRefused refusal → e .feed .standing ≡ Refused refusal
 
 -- while it stands nothing is used and nothing changes, and every call repeats it
 abbrev pub RefusalStands : Type 0
-RefusalStands = (f : Feed) (fault : CodeRefusal) (piece : List ℕ) (t : Taken) (e : Ended) → f .standing ≡ Refused fault → Takes f piece t → Ends f e
-    → (t ≡ record { feed = f; used = 0; found = FoundRefused fault }) × (e ≡ record { feed = f; found = FoundRefused fault })
+RefusalStands = (f : Feed) (refusal : CodeRefusal) (piece : List ℕ) (t : Taken) (e : Ended) → f .standing ≡ Refused refusal → Takes f piece t → Ends f e
+    → (t ≡ record { feed = f; used = 0; found = FoundRefused refusal }) × (e ≡ record { feed = f; found = FoundRefused refusal })
 
 -- until a restart, which gives the feed that `new` gives
 abbrev pub RestartIsNew : Type 0

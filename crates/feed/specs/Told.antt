@@ -50,7 +50,7 @@ toldTaken t = record { state = toldFeed (t .feed); used = t .used; finding = tol
 abbrev pub toldEnded : Ended → FeedOutcome
 toldEnded e = record { state = toldFeed (e .feed); used = 0; finding = toldFound (e .found) }
 
--- what `CodeRefusal::number` promises
+-- what `Refusal::number` promises
 abbrev pub NumbersFeedRefusal : CodeRefusal → ℕ → Type 0
 NumbersFeedRefusal f r = r ≡ numberOf (toldFeedRefusal f)
 

@@ -119,7 +119,7 @@ fn expects(kept: &[u8], count: usize) -> usize
 }
 
 // How many bytes to take before the heading is judged: up to the 17th. One, where that is in: in a state that
-// no feed comes to, the bytes kept may be a message or a broken heading already, and the next byte settles that.
+// no feed comes to, the bytes kept may be a message or a refused heading already, and the next byte settles that.
 fn stretch(count: usize, offered: usize) -> usize
     requires { ⌜ 0 < offered ⌝ }
     ensures { λ r. ⌜ Stretch count offered r ⌝ }

@@ -12,7 +12,7 @@ use Rattle.envelope.specs.Refusals.{Refused, plainly, passingOn}
 use Rattle.envelope.specs.Told.{toldPart, toldEnvelope}
 use Rattle.envelope.specs.declared.reader.Reading.the-variants.{Accepted}
 use Rattle.frame.specs.Capturing.{MeasuresFirst}
-use Rattle.frame.specs.Wrapping.{WrapOutcome, wrapping, acknowledging, WrapAnswer, wrote, refused, wrapAnswer, toldWrapped, Answers, Wraps, Acknowledges}
+use Rattle.frame.specs.Wrapping.{WrapOutcome, wrapping, acknowledging, WrapAnswer, wrote, refused, answerToWrapping, toldWrapped, Answers, Wraps, Acknowledges}
 use Rattle.frame.specs.Unwrapping.{message, toldUnwrapped, Unwraps}
 use Rattle.frame.specs.Refusal.{toldFrameRefusal, NumbersFrameRefusal}
 use Rattle.frame.specs.declared.wrapper.Wrapped.{Wrapped}
@@ -96,7 +96,7 @@ untold-wrapping (wrapped.Refused f) = ap wrapped.Refused (untold-frame-refusal f
 
 only-answers : (o : WrapOutcome) (entry : List ℕ) → Only₂ (Answers o entry)
 only-answers o entry a b x y p q =
-    (only-by-telling toldWrapped untoldWrapped untold-wrapping (wrapAnswer o) a b (p .0) (q .0), p .1 ∙ sym (q .1))
+    (only-by-telling toldWrapped untoldWrapped untold-wrapping (answerToWrapping o) a b (p .0) (q .0), p .1 ∙ sym (q .1))
 
 pub only-wraps : (m : List ℕ) (commid : ℕ) (entry : List ℕ) → Only₂ (Wraps m commid entry)
 only-wraps m commid entry = only-answers (wrapping m commid (length entry)) entry

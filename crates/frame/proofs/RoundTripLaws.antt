@@ -19,7 +19,7 @@ use Rattle.envelope.specs.Promise.{Bytes}
 use Rattle.envelope.specs.Reading.{reading}
 use Rattle.envelope.specs.Refusals.{plainly}
 use Rattle.envelope.specs.Told.{toldPart, toldEnvelope}
-use Rattle.frame.specs.Wrapping.{WrapOutcome, written, refused, wrapping, acknowledging, putDown, afterWrapping, wrote, wrapAnswer, toldWrapped, Answers}
+use Rattle.frame.specs.Wrapping.{WrapOutcome, written, refused, wrapping, acknowledging, putDown, afterWrapping, wrote, answerToWrapping, toldWrapped, Answers}
 use Rattle.frame.specs.Unwrapping as unwrap
 use Rattle.frame.specs.Wrapping as wrap
 use Rattle.frame.specs.Capturing.{isFrame}
@@ -262,7 +262,7 @@ unwrapped-then-wrapped s commid p f room bytes e h =
 
 -- an outcome that is written, as the code answers it
 answered : (o : WrapOutcome) (s entry exit : List ℕ) (r : code.Wrapped) → o ≡ written s → Answers o entry r exit → (toldWrapped r ≡ wrote (length s)) × (exit ≡ putDown s entry)
-answered o s entry exit r e w = (w .0 ∙ ap wrapAnswer e, w .1 ∙ ap (λ (x : WrapOutcome). afterWrapping x entry) e)
+answered o s entry exit r e w = (w .0 ∙ ap answerToWrapping e, w .1 ∙ ap (λ (x : WrapOutcome). afterWrapping x entry) e)
 
 pub unwrapped-then-wrapped-buffer : UnwrappedThenWrappedBuffer
 unwrapped-then-wrapped-buffer s d entry exit r bytes e h w =

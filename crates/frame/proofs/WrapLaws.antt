@@ -14,7 +14,7 @@ use Rattle.envelope.specs.Fields as fields
 use Rattle.envelope.specs.Promise.{Bytes}
 use Rattle.envelope.specs.Reading.{reading}
 use Rattle.envelope.specs.Refusals.{Refused, plainly, passingOn, Gives}
-use Rattle.frame.specs.Wrapping.{WrapOutcome, written, refused, fitting, wrapping, acknowledging, putDown, afterWrapping, wrote, wrapAnswer, Never69, RefusalWritesNothing, WrapGives, AcknowledgeGives}
+use Rattle.frame.specs.Wrapping.{WrapOutcome, written, refused, fitting, wrapping, acknowledging, putDown, afterWrapping, wrote, answerToWrapping, Never69, RefusalWritesNothing, WrapGives, AcknowledgeGives}
 use Rattle.frame.specs.Frames.{frame, dataFrame, acknowledgmentFrame}
 use Rattle.frame.specs.Layout.{leastSize, largestLength}
 use Rattle.frame.proofs.PutLaws.{frame-length}
@@ -41,11 +41,11 @@ past-69 m commid room f bytes e = rw (e, le-ltb largestLength (length m) (short-
 
 -- ---- the answer and the buffer, of a known outcome
 
-pub answers-refused : (o : WrapOutcome) (entry : List ℕ) (r : Refused) → o ≡ refused r → (refused r ≡ wrapAnswer o) × (entry ≡ afterWrapping o entry)
+pub answers-refused : (o : WrapOutcome) (entry : List ℕ) (r : Refused) → o ≡ refused r → (refused r ≡ answerToWrapping o) × (entry ≡ afterWrapping o entry)
 answers-refused o entry r e = (rw e, rw e)
 
 pub answers-written : (o : WrapOutcome) (t commid : ℕ) (body entry exit : List ℕ) (n : ℕ) → o ≡ written (frame t commid body) → n ≡ leastSize + length body
-    → exit ≡ putDown (frame t commid body) entry → (wrote n ≡ wrapAnswer o) × (exit ≡ afterWrapping o entry)
+    → exit ≡ putDown (frame t commid body) entry → (wrote n ≡ answerToWrapping o) × (exit ≡ afterWrapping o entry)
 answers-written o t commid body entry exit n e en ee =
     (ap wrote (en ∙ sym (frame-length t commid body)) ∙ rw e, ee ∙ rw e)
 

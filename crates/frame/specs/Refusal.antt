@@ -1,6 +1,6 @@
 -- What each refusal of a frame is on paper: its number, and for 67 the refusal of reading too, passed on whole. RULES 8.
 -- 69 is in the definition of wrapping alone: no refusal of the code has it, since it cannot occur.
-use Rattle.envelope.specs.Refusals.{Refused, plainly, passingOn, NumbersOf}
+use Rattle.envelope.specs.Refusals.{Refused, plainly, passingOn, TellsNumbers}
 use Rattle.envelope.specs.Told.{toldRefusal}
 use Rattle.envelope.specs.declared.refusals.Numbers.{Numbers}
 use Rattle.frame.specs.declared.refusal.Refusal.{Refusal}
@@ -18,4 +18,4 @@ toldFrameRefusal NoRoom = plainly 68
 
 -- what `Refusal::numbers` promises
 abbrev pub NumbersFrameRefusal : Refusal → Numbers → Type 0
-NumbersFrameRefusal refusal r = NumbersOf (toldFrameRefusal refusal) r
+NumbersFrameRefusal refusal r = TellsNumbers (toldFrameRefusal refusal) r

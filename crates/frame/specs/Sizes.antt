@@ -8,7 +8,7 @@ use Rattle.envelope.specs.Layout.{largestMessage}
 use Rattle.envelope.specs.Promise.{Bytes}
 use Rattle.frame.specs.Layout.{leastSize, commidSize}
 use Rattle.frame.specs.Unwrapping.{UnwrapAnswer, message, acknowledgment, refused, unwrapping}
-use Rattle.frame.specs.Wrapping.{WrapAnswer, wrote, refused, wrapAnswer, wrapping, acknowledging}
+use Rattle.frame.specs.Wrapping.{WrapAnswer, wrote, refused, answerToWrapping, wrapping, acknowledging}
 
 -- 0 where there is no message
 abbrev pub messageSize : UnwrapAnswer → ℕ
@@ -23,16 +23,16 @@ wroteLength (refused r) = 0
 -- the length told is that of the frame: 13 more than the message's, and 17
 abbrev pub WrapTellsItsLength : Type 0
 WrapTellsItsLength =
-    (m : List ℕ) (commid room n : ℕ) → Bytes m → wrapAnswer (wrapping m commid room) ≡ wrote n → n ≡ leastSize + length m
+    (m : List ℕ) (commid room n : ℕ) → Bytes m → answerToWrapping (wrapping m commid room) ≡ wrote n → n ≡ leastSize + length m
 
 abbrev pub AcknowledgeTellsItsLength : Type 0
-AcknowledgeTellsItsLength = (commid acknowledged room n : ℕ) → wrapAnswer (acknowledging commid acknowledged room) ≡ wrote n → n ≡ leastSize + commidSize
+AcknowledgeTellsItsLength = (commid acknowledged room n : ℕ) → answerToWrapping (acknowledging commid acknowledged room) ≡ wrote n → n ≡ leastSize + commidSize
 
 abbrev pub UnwrapsNoLonger : Type 0
 UnwrapsNoLonger = (s : List ℕ) → Bytes s → messageSize (unwrapping s) ≤ largestMessage
 
 abbrev pub WrapsNoLonger : Type 0
-WrapsNoLonger = (m : List ℕ) (commid room : ℕ) → Bytes m → wroteLength (wrapAnswer (wrapping m commid room)) ≤ leastSize + largestMessage
+WrapsNoLonger = (m : List ℕ) (commid room : ℕ) → Bytes m → wroteLength (answerToWrapping (wrapping m commid room)) ≤ leastSize + largestMessage
 
 abbrev pub AcknowledgesNoLonger : Type 0
-AcknowledgesNoLonger = (commid acknowledged room : ℕ) → wroteLength (wrapAnswer (acknowledging commid acknowledged room)) ≤ leastSize + largestMessage
+AcknowledgesNoLonger = (commid acknowledged room : ℕ) → wroteLength (answerToWrapping (acknowledging commid acknowledged room)) ≤ leastSize + largestMessage

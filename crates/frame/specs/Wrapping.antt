@@ -51,9 +51,9 @@ pub data WrapAnswer : Type 0 where
   wrote : ℕ → WrapAnswer
   refused : Refused → WrapAnswer
 
-abbrev pub wrapAnswer : WrapOutcome → WrapAnswer
-wrapAnswer (written frame) = wrote (length frame)
-wrapAnswer (refused r) = refused r
+abbrev pub answerToWrapping : WrapOutcome → WrapAnswer
+answerToWrapping (written frame) = wrote (length frame)
+answerToWrapping (refused r) = refused r
 
 abbrev pub toldWrapped : code.Wrapped → WrapAnswer
 toldWrapped (Written n) = wrote n
@@ -61,7 +61,7 @@ toldWrapped (Refuses f) = refused (toldFrameRefusal f)
 
 -- an outcome as the code answers it, and the whole buffer afterwards
 abbrev pub Answers : WrapOutcome → List ℕ → code.Wrapped → List ℕ → Type 0
-Answers o entry r exit = (toldWrapped r ≡ wrapAnswer o) × (exit ≡ afterWrapping o entry)
+Answers o entry r exit = (toldWrapped r ≡ answerToWrapping o) × (exit ≡ afterWrapping o entry)
 
 -- what `wrap` promises
 abbrev pub Wraps : List ℕ → ℕ → List ℕ → code.Wrapped → List ℕ → Type 0

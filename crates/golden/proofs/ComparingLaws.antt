@@ -11,7 +11,7 @@ use lib.ListN.{length}
 use Rattle.envelope.specs.Fields.{Span, Fields}
 use Rattle.envelope.specs.Reading.{reading}
 use Rattle.envelope.specs.Refusals.{Refused, plainly}
-use Rattle.golden.specs.Comparing.{CompareOutcome, refused, withRadio, withRecord, comparing, longer, differing, isProperBeginning, comparingMessages, afterComparing, CompareAnswer, same, different, compareAnswer}
+use Rattle.golden.specs.Comparing.{CompareOutcome, refused, withRadio, withRecord, comparing, longer, differing, isProperBeginning, comparingMessages, afterComparing, CompareAnswer, same, different, answerToComparing}
 use Rattle.golden.specs.File.{badFile, notThere, recordAt, judgedAt}
 use Rattle.golden.specs.Positions.{noted}
 use Rattle.golden.specs.Record.{messageOf, Judged, good, bad}
@@ -32,17 +32,17 @@ longer-below g r m h k = below-both (ltb (length g) (length r))
     below-both false = h
 
 module _ (g r l : List ℕ) (b : Bool) (e : b ≡ isProperBeginning g r) where
-  pub is-32 : b ≡ true → (refused (plainly 32) ≡ compareAnswer (comparingMessages g r)) × (l ≡ afterComparing (comparingMessages g r) l)
-  unfolding comparingMessages compareAnswer afterComparing
+  pub is-32 : b ≡ true → (refused (plainly 32) ≡ answerToComparing (comparingMessages g r)) × (l ≡ afterComparing (comparingMessages g r) l)
+  unfolding comparingMessages answerToComparing afterComparing
   is-32 h = let f : isProperBeginning g r ≡ true = sym e ∙ h in (rw f, rw f)
 
   module _ (h : b ≡ false) (l′ : List ℕ) (t : ℕ) (q : t ≡ length (differing g r)) (s : l′ ≡ noted (differing g r) l) where
-    pub is-same : t ≡ 0 → (same ≡ compareAnswer (comparingMessages g r)) × (l′ ≡ afterComparing (comparingMessages g r) l)
-    unfolding comparingMessages compareAnswer afterComparing
+    pub is-same : t ≡ 0 → (same ≡ answerToComparing (comparingMessages g r)) × (l′ ≡ afterComparing (comparingMessages g r) l)
+    unfolding comparingMessages answerToComparing afterComparing
     is-same z = let f : isProperBeginning g r ≡ false = sym e ∙ h in (rw (f, ← q, eq-eqb _ _ z), rw f s)
 
-    pub is-different : (t ≡ 0 → ⊥) → (different t ≡ compareAnswer (comparingMessages g r)) × (l′ ≡ afterComparing (comparingMessages g r) l)
-    unfolding comparingMessages compareAnswer afterComparing
+    pub is-different : (t ≡ 0 → ⊥) → (different t ≡ answerToComparing (comparingMessages g r)) × (l′ ≡ afterComparing (comparingMessages g r) l)
+    unfolding comparingMessages answerToComparing afterComparing
     is-different z = let f : isProperBeginning g r ≡ false = sym e ∙ h in (rw (f, ← q, ne-eqb _ _ z), rw f s)
 
 -- ---- comparing a record, from the answer of a step
@@ -98,11 +98,11 @@ module _ (f : List ℕ) (n : ℕ) (radio : List ℕ) where
       let k = message-so f n (messageOf (recordAt f n)) radio (badFile f) (notThere f n) (judgedAt f n) p e in
       record { fields = k .fields; judged = k .judged; part = k .part; compared = k .compared }
 
-pub refuses : (o : CompareOutcome) (x : Refused) (l : List ℕ) → o ≡ refused x → (refused x ≡ compareAnswer o) × (l ≡ afterComparing o l)
-unfolding compareAnswer afterComparing
+pub refuses : (o : CompareOutcome) (x : Refused) (l : List ℕ) → o ≡ refused x → (refused x ≡ answerToComparing o) × (l ≡ afterComparing o l)
+unfolding answerToComparing afterComparing
 refuses o x l e = (rw e, rw e)
 
 -- two messages are compared under another name of the first
 pub compares-same : (o : CompareOutcome) (g h r l₀ l : List ℕ) (x : CompareAnswer) → g ≡ h → o ≡ comparingMessages h r
-    → (x ≡ compareAnswer (comparingMessages g r)) × (l ≡ afterComparing (comparingMessages g r) l₀) → (x ≡ compareAnswer o) × (l ≡ afterComparing o l₀)
+    → (x ≡ answerToComparing (comparingMessages g r)) × (l ≡ afterComparing (comparingMessages g r) l₀) → (x ≡ answerToComparing o) × (l ≡ afterComparing o l₀)
 compares-same o g h r l₀ l x eg eo c = rw (eo, ← eg) c

@@ -16,7 +16,7 @@ use Rattle.envelope.specs.Reading.{reading}
 use Rattle.envelope.specs.Refusals.{Refused, plainly, passingOn}
 use Rattle.golden.specs.Checking.{CheckAnswer, checking}
 use Rattle.golden.specs.Checking as check
-use Rattle.golden.specs.Comparing.{differsAt, longer, differing, isProperBeginning, positions, refused, comparingMessages, withRadio, withRecord, comparing, same, different, compareAnswer}
+use Rattle.golden.specs.Comparing.{differsAt, longer, differing, isProperBeginning, positions, refused, comparingMessages, withRadio, withRecord, comparing, same, different, answerToComparing}
 use Rattle.golden.specs.File.{mostRecords, badFile, countOf, notThere, recordAt, judgedAt}
 use Rattle.golden.specs.Finding.{FindAnswer, finding}
 use Rattle.golden.specs.Listing.{counting}
@@ -88,8 +88,8 @@ step-goes-on-by-one f n = go (badFile f) (notThere f n)
 
 -- ---- compare
 
-total-of : (ks : List ℕ) → differenceTotal (compareAnswer (positions ks)) ≤ length ks
-unfolding compareAnswer
+total-of : (ks : List ℕ) → differenceTotal (answerToComparing (positions ks)) ≤ length ks
+unfolding answerToComparing
 total-of ks = go (eqb (length ks) 0)
   where
     go : (b : Bool) → differenceTotal (cond b same (different (length ks))) ≤ length ks
@@ -100,25 +100,25 @@ differing-few : (g r : List ℕ) → length (differing g r) ≤ longer g r
 unfolding differing
 differing-few g r = select-few (differsAt g r) 0 (longer g r)
 
-nothing-of : (x : Refused) (m : ℕ) → differenceTotal (compareAnswer (refused x)) ≤ m
-unfolding compareAnswer
+nothing-of : (x : Refused) (m : ℕ) → differenceTotal (answerToComparing (refused x)) ≤ m
+unfolding answerToComparing
 nothing-of x m = omega arith
 
-messages-total : (g r : List ℕ) (m : ℕ) → length g ≤ m → length r ≤ m → differenceTotal (compareAnswer (comparingMessages g r)) ≤ m
+messages-total : (g r : List ℕ) (m : ℕ) → length g ≤ m → length r ≤ m → differenceTotal (answerToComparing (comparingMessages g r)) ≤ m
 unfolding comparingMessages
 messages-total g r m hg hr = go (isProperBeginning g r)
   where
-    go : (b : Bool) → differenceTotal (compareAnswer (cond b (refused (plainly 32)) (positions (differing g r)))) ≤ m
+    go : (b : Bool) → differenceTotal (answerToComparing (cond b (refused (plainly 32)) (positions (differing g r)))) ≤ m
     go true = nothing-of (plainly 32) m
     go false = omega (arith, total-of (differing g r), differing-few g r, longer-below g r (m + 1) (omega arith) (omega arith))
 
 with-radio : (g radio : List ℕ) → length g ≤ messageRoom → Bytes radio → (a : Answer) → reading radio ≡ a
-    → differenceTotal (compareAnswer (withRadio g radio a)) ≤ largestMessage
+    → differenceTotal (answerToComparing (withRadio g radio a)) ≤ largestMessage
 with-radio g radio hg bytes (envelope.refused r) e = nothing-of (passingOn 31 r) largestMessage
 with-radio g radio hg bytes (accepted f) e = messages-total g radio largestMessage (omega arith) (accepted-most radio f bytes e)
 
 with-record : (f : List ℕ) (n : ℕ) (radio : List ℕ) → Bytes radio → (j : Judged) → judgedAt f n ≡ j
-    → differenceTotal (compareAnswer (withRecord (messageOf (recordAt f n)) radio j)) ≤ largestMessage
+    → differenceTotal (answerToComparing (withRecord (messageOf (recordAt f n)) radio j)) ≤ largestMessage
 with-record f n radio bytes (bad r) e = nothing-of r largestMessage
 with-record f n radio bytes (good x) e =
     let size = good-size f n x e in
@@ -130,7 +130,7 @@ unfolding comparing
 compare-totals-few f n radio bytes = go (badFile f) (notThere f n)
   where
     go : (a b : Bool)
-        → differenceTotal (compareAnswer (cond a (refused (plainly 21)) (cond b (refused (plainly 22)) (withRecord (messageOf (recordAt f n)) radio (judgedAt f n))))) ≤ largestMessage
+        → differenceTotal (answerToComparing (cond a (refused (plainly 21)) (cond b (refused (plainly 22)) (withRecord (messageOf (recordAt f n)) radio (judgedAt f n))))) ≤ largestMessage
     go true b = nothing-of (plainly 21) largestMessage
     go false true = nothing-of (plainly 22) largestMessage
     go false false = with-record f n radio bytes (judgedAt f n) refl

@@ -1,5 +1,5 @@
 -- A file and its records: what a whole file is, where its records and their bytes stand, and what a record's judgement says of them.
--- Whoever builds on golden files cites these and opens neither `badFile` nor `judgedAt`.
+-- For crates above, which cite these and open no definition of a file or a record.
 use mathlib.Core.Bool.{Bool, true, false, cond, not}
 use mathlib.Core.List.{List, [], _∷_}
 use mathlib.Core.Path.{_≡_, refl, ap, ap₂, sym, _∙_, subst}

@@ -17,9 +17,9 @@ use Rattle.golden.specs.Record.{storedLength, Judged, good, bad, judging
 
 -- ---- what opening a record says of its judgement
 
-as-spoilt : (size : ℕ) (j : Judged) (r : Refused) → bad r ≡ openedAs size j → j ≡ bad r
-as-spoilt size (good f) r e = cc
-as-spoilt size (bad x) r e = cc
+as-bad : (size : ℕ) (j : Judged) (r : Refused) → bad r ≡ openedAs size j → j ≡ bad r
+as-bad size (good f) r e = cc
+as-bad size (bad x) r e = cc
 
 as-holding : (size l : ℕ) (j : Judged) (f : Fields) → holding l f ≡ openedAs size j → (j ≡ good f) × (l ≡ size)
 as-holding size l (good g) f e = (cc, cc)
@@ -27,7 +27,7 @@ as-holding size l (bad x) f e = (cc, cc)
 
 pub judged-bad : (s : List ℕ) (n : ℕ) (r : Refused) → bad r ≡ opening (recordAt s n) → judgedAt s n ≡ bad r
 unfolding opening judgedAt
-judged-bad s n r e = as-spoilt (storedLength (recordAt s n)) (judging (recordAt s n)) r e
+judged-bad s n r e = as-bad (storedLength (recordAt s n)) (judging (recordAt s n)) r e
 
 pub judged-good : (s : List ℕ) (n l : ℕ) (f : Fields) → holding l f ≡ opening (recordAt s n)
     → (judgedAt s n ≡ good f) × (l ≡ storedLength (recordAt s n))

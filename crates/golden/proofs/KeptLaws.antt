@@ -16,8 +16,8 @@ answered : (b : Bool) (n : ℕ) (r : Refused) → cond b compare.same (compare.d
 answered true n r e = let z : _≡_ {A = ℕ} 0 1 = cc in omega arith
 answered false n r e = let z : _≡_ {A = ℕ} 0 1 = cc in omega arith
 
-list-kept : (o : compare.CompareOutcome) (entry : List ℕ) (r : Refused) → compare.compareAnswer o ≡ compare.refused r → compare.afterComparing o entry ≡ entry
-unfolding compare.compareAnswer compare.afterComparing
+list-kept : (o : compare.CompareOutcome) (entry : List ℕ) (r : Refused) → compare.answerToComparing o ≡ compare.refused r → compare.afterComparing o entry ≡ entry
+unfolding compare.answerToComparing compare.afterComparing
 list-kept (compare.refused x) entry r e = refl
 list-kept (compare.positions ks) entry r e = absurd (answered (eqb (length ks) 0) (length ks) r e)
 

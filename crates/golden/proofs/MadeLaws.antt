@@ -18,7 +18,7 @@ use Rattle.envelope.specs.Numbers.{inTwo}
 use Rattle.envelope.specs.Reading.{reading}
 use Rattle.envelope.specs.Refusals.{plainly, passingOn}
 use Rattle.golden.specs.Checking.{counted, checking}
-use Rattle.golden.specs.Comparing.{differsAt, differing, isProperBeginning, positions, comparingMessages, comparing, same, compareAnswer}
+use Rattle.golden.specs.Comparing.{differsAt, differing, isProperBeginning, positions, comparingMessages, comparing, same, answerToComparing}
 use Rattle.golden.specs.File.{badFile, countOf, recordAt, judgedAt}
 use Rattle.golden.specs.Finding.{nameOf, found, finding}
 use Rattle.golden.specs.Making.{recordOf, MakeAnswer, made, refused, makingRead, making, afterMaking}
@@ -122,9 +122,9 @@ module _ (m : List ℕ) (fields : Fields) (short : length m ≤ messageRoom) (ac
   unfolding comparing
   compared = rw (whole, one, judged, accepts, first, message-back m) (compares-same m)
 
-  pub compares : compareAnswer (comparing file 0 m) ≡ same
-  unfolding compareAnswer
-  compares = ap compareAnswer compared
+  pub compares : answerToComparing (comparing file 0 m) ≡ same
+  unfolding answerToComparing
+  compares = ap answerToComparing compared
 
   pub finds : finding file (nameOf fields) ≡ found 0 1
   finds =

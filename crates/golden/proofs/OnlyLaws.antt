@@ -156,7 +156,7 @@ untold-comparison (comparison.Refused r) = ap comparison.Refused (untold-golden-
 
 pub only-compares : (f : List ℕ) (n : ℕ) (radio entry : List ℕ) → Only₂ (compare.Compares f n radio entry)
 only-compares f n radio entry a b x y p q =
-    (only-by-telling compare.toldComparison untoldComparison untold-comparison (compare.compareAnswer (compare.comparing f n radio)) a b (p .0) (q .0), p .1 ∙ sym (q .1))
+    (only-by-telling compare.toldComparison untoldComparison untold-comparison (compare.answerToComparing (compare.comparing f n radio)) a b (p .0) (q .0), p .1 ∙ sym (q .1))
 
 -- ---- make: the answer and the whole buffer
 

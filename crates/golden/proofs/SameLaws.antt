@@ -15,7 +15,7 @@ use Rattle.envelope.specs.Fields.{Answer, accepted}
 use Rattle.envelope.specs.Fields as envelope
 use Rattle.envelope.specs.Reading.{reading}
 use Rattle.envelope.specs.Refusals.{Refused}
-use Rattle.golden.specs.Comparing.{differsAt, longer, differing, isProperBeginning, CompareOutcome, positions, refused, comparingMessages, withRadio, withRecord, comparing, same, different, compareAnswer}
+use Rattle.golden.specs.Comparing.{differsAt, longer, differing, isProperBeginning, CompareOutcome, positions, refused, comparingMessages, withRadio, withRecord, comparing, same, different, answerToComparing}
 use Rattle.golden.specs.File.{badFile, notThere, recordAt, judgedAt}
 use Rattle.golden.specs.Record.{Judged, good, bad, messageOf}
 use Rattle.golden.specs.Theorems.{SameIsEqual}
@@ -44,8 +44,8 @@ module _ (g r : List ℕ) (e : differing g r ≡ []) where
           ext-getD 0 g r lengths (λ k h. in-both k (rw (le-ltb (length g) (length r) (omega arith)) h) .2)
 
 -- an outcome that is told as same has no position
-no-position : (o : CompareOutcome) → compareAnswer o ≡ same → o ≡ positions []
-unfolding compareAnswer
+no-position : (o : CompareOutcome) → answerToComparing o ≡ same → o ≡ positions []
+unfolding answerToComparing
 no-position (positions []) e = refl
 no-position (positions (k ∷ ks)) e =
     let d : different (length (k ∷ ks)) ≡ same = rw (ne-eqb (length (k ∷ ks)) 0 (λ h. omega arith)) at e in

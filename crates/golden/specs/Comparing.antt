@@ -71,9 +71,9 @@ pub data CompareAnswer : Type 0 where
   different : ℕ → CompareAnswer
   refused : Refused → CompareAnswer
 
-unfoldable pub compareAnswer : CompareOutcome → CompareAnswer
-compareAnswer (positions ks) = cond (eqb (length ks) 0) same (different (length ks))
-compareAnswer (refused x) = refused x
+unfoldable pub answerToComparing : CompareOutcome → CompareAnswer
+answerToComparing (positions ks) = cond (eqb (length ks) 0) same (different (length ks))
+answerToComparing (refused x) = refused x
 
 abbrev pub toldComparison : Comparison → CompareAnswer
 toldComparison Same = same
@@ -83,4 +83,4 @@ toldComparison (CompareRefused r) = refused (toldGoldenRefusal r)
 -- what `compare` promises, of its answer and of the whole list afterwards
 abbrev pub Compares : List ℕ → ℕ → List ℕ → List ℕ → Comparison → List ℕ → Type 0
 Compares f n radio entry r exit =
-    (toldComparison r ≡ compareAnswer (comparing f n radio)) × (exit ≡ afterComparing (comparing f n radio) entry)
+    (toldComparison r ≡ answerToComparing (comparing f n radio)) × (exit ≡ afterComparing (comparing f n radio) entry)

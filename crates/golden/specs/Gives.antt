@@ -1,4 +1,4 @@
--- Which refusals each operation of the golden file can give: those of its line in the header, and no others. RULES 5.
+-- Which refusals an operation of the golden file can give: none but those of its line in the header. RULES 5.
 -- First the numbers in which reading had no part, then those that pass its refusal on. Proved in proofs/GivesLaws.
 use Prim.Native.Nat.{ℕ}
 use mathlib.Core.List.{List, [], _∷_}
@@ -32,7 +32,7 @@ EntryGives = (f : List ℕ) (n : ℕ) (r : Refused) → list.entryAt f n ≡ lis
 
 abbrev pub CompareGives : Type 0
 CompareGives =
-    (f : List ℕ) (n : ℕ) (radio : List ℕ) (r : Refused) → compare.compareAnswer (compare.comparing f n radio) ≡ compare.refused r
+    (f : List ℕ) (n : ℕ) (radio : List ℕ) (r : Refused) → compare.answerToComparing (compare.comparing f n radio) ≡ compare.refused r
     → Gives (21 ∷ 22 ∷ 23 ∷ 24 ∷ 32 ∷ []) (25 ∷ 31 ∷ []) r
 
 abbrev pub MakeGives : Type 0

@@ -1,6 +1,6 @@
 -- What each refusal of the golden file is on paper: its number, and for 25, 31 and 34 the refusal of reading too, passed on whole. RULES 5.
 -- One table for all operations; which of them each can give is said in specs/Gives.
-use Rattle.envelope.specs.Refusals.{Refused, plainly, passingOn, NumbersOf}
+use Rattle.envelope.specs.Refusals.{Refused, plainly, passingOn, TellsNumbers}
 use Rattle.envelope.specs.Told.{toldRefusal}
 use Rattle.envelope.specs.declared.refusals.Numbers.{Numbers}
 use Rattle.golden.specs.declared.refusal.Refusal.{Refusal}
@@ -21,4 +21,4 @@ toldGoldenRefusal WrongBuffer = plainly 35
 
 -- what `Refusal::numbers` promises
 abbrev pub NumbersGoldenRefusal : Refusal → Numbers → Type 0
-NumbersGoldenRefusal refusal r = NumbersOf (toldGoldenRefusal refusal) r
+NumbersGoldenRefusal refusal r = TellsNumbers (toldGoldenRefusal refusal) r

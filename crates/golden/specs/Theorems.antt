@@ -18,7 +18,7 @@ use Rattle.envelope.specs.Refusals.{Refused, plainly, passingOn}
 use Rattle.envelope.specs.TwoBits.{bitsApart, summed, fieldOf}
 use Rattle.golden.specs.Checking.{CheckAnswer, counted, checking}
 use Rattle.golden.specs.Checking as check
-use Rattle.golden.specs.Comparing.{isProperBeginning, comparing, CompareAnswer, same, different, refused, compareAnswer, toldComparison, Compares}
+use Rattle.golden.specs.Comparing.{isProperBeginning, comparing, CompareAnswer, same, different, refused, answerToComparing, toldComparison, Compares}
 use Rattle.golden.specs.File.{mostRecords, badFile, countOf, recordAt, judgedAt}
 use Rattle.golden.specs.Finding.{NameFields, hasName, nameOf, FindAnswer, found, finding}
 use Rattle.golden.specs.Finding as find
@@ -123,7 +123,7 @@ ReasonSettlesFind = (f : List ℕ) (name : NameFields) (a : FindAnswer) → Find
 
 -- where it answers same, the record's message and the radio's have the same bytes
 abbrev pub SameIsEqual : Type 0
-SameIsEqual = (f : List ℕ) (n : ℕ) (radio : List ℕ) → compareAnswer (comparing f n radio) ≡ same → messageOf (recordAt f n) ≡ radio
+SameIsEqual = (f : List ℕ) (n : ℕ) (radio : List ℕ) → answerToComparing (comparing f n radio) ≡ same → messageOf (recordAt f n) ≡ radio
 
 -- ---- make
 
@@ -132,7 +132,7 @@ pub record MadeGood (m exit : List ℕ) : Type 0 where
   pub fields : Fields
   pub accepts : reading m ≡ accepted fields
   pub checks : checking exit ≡ counted 1
-  pub compares : compareAnswer (comparing exit 0 m) ≡ same
+  pub compares : answerToComparing (comparing exit 0 m) ≡ same
   pub finds : finding exit (nameOf fields) ≡ found 0 1
 
 abbrev pub MadeIsGood : Type 0
@@ -194,7 +194,7 @@ differenceTotal (different n) = n
 differenceTotal (refused r) = 0
 
 abbrev pub CompareTotalsFew : Type 0
-CompareTotalsFew = (f : List ℕ) (n : ℕ) (radio : List ℕ) → Bytes radio → differenceTotal (compareAnswer (comparing f n radio)) ≤ largestMessage
+CompareTotalsFew = (f : List ℕ) (n : ℕ) (radio : List ℕ) → Bytes radio → differenceTotal (answerToComparing (comparing f n radio)) ≤ largestMessage
 
 -- ---- a refusal leaves what was lent as it was
 

@@ -3,7 +3,7 @@ ghost use mathlib.Core.Path.{_≡_};
 ghost use mathlib.Core.Bool.{cond};
 ghost use Prim.Native.Nat.{_+_, _≤_, _<_, _^_};
 ghost use lib.ListN.{length, set};
-ghost use Rattle.golden.specs.Comparing.{differsAt, longer, differing, isBeginning, isProperBeginning, comparingMessages, afterComparing, compareAnswer, toldComparison, Compares};
+ghost use Rattle.golden.specs.Comparing.{differsAt, longer, differing, isBeginning, isProperBeginning, comparingMessages, afterComparing, answerToComparing, toldComparison, Compares};
 ghost use Rattle.golden.specs.Positions.{noted};
 use crate::positions::note;
 use crate::refusal::Refusal;
@@ -34,7 +34,7 @@ pub fn compare(file: &[u8], n: usize, radio: &[u8], list: &mut [u32]) -> Compari
 // Two accepted messages.
 fn compare_messages(golden: &[u8], radio: &[u8], list: &mut [u32]) -> Comparison
     requires { ⌜ (length (now golden) < 2 ^ 32) × (length (now radio) < 2 ^ 32) ⌝ }
-    ensures { λ r. ⌜ (toldComparison r ≡ compareAnswer (comparingMessages (now (golden .entry)) (now (radio .entry))))
+    ensures { λ r. ⌜ (toldComparison r ≡ answerToComparing (comparingMessages (now (golden .entry)) (now (radio .entry))))
         × (now (list .exit) ≡ afterComparing (comparingMessages (now (golden .entry)) (now (radio .entry))) (now (list .entry))) ⌝ }
 {
     if is_proper_beginning(golden, radio) {

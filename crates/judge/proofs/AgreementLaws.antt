@@ -9,7 +9,7 @@ use borrow.Author.Tests.{ltb-false, eqb-true, eqb-false, not-false}
 use lib.Dec.{eqb}
 use lib.ListN.{length}
 use Rattle.envelope.specs.Addresses.{badAddresses}
-use Rattle.envelope.specs.Fields.{Answer, accepted, refusal}
+use Rattle.envelope.specs.Fields.{Answer, accepted, refusedBy}
 use Rattle.envelope.specs.Flags.{kindOf, badFlags}
 use Rattle.envelope.specs.Heading.{flagsOf, variableSize, fieldPlace, announced, wrongVersion, badVariableSize}
 use Rattle.envelope.specs.IntegrityField.{badIntegrity}
@@ -36,7 +36,7 @@ of-unjudged b v eb ev = rw (eb, ev) says-nothing
 
 -- one rule more in front
 in-front : (b : Bool) (v : RuleAnswer) (n : ℕ) (rest : List ℕ) (answer : Answer) → Says b v
-    → (b ≡ false → Agree rest answer) → Agree (listed v n rest) (cond b (refusal n) answer)
+    → (b ≡ false → Agree rest answer) → Agree (listed v n rest) (cond b (refusedBy n) answer)
 in-front true broken n rest answer says-broken f = (refl, refl)
 in-front false kept n rest answer says-kept f = f refl
 in-front false notJudged n rest answer says-nothing f = f refl
@@ -63,13 +63,13 @@ module _ (s : List ℕ) where
           of-judged _ _ (addresses-near s least most (omega (arith, announced-is s)))
 
   chain : Agree (brokenRules (judging s))
-      (cond (tooShort s) (refusal 1)
-      (cond (wrongVersion s) (refusal 2)
-      (cond (badFlags (flagsOf s)) (refusal 3)
-      (cond (badVariableSize (variableSize s)) (refusal 4)
-      (cond (wrongLength s) (refusal 5)
-      (cond (badAddresses s (variableSize s)) (refusal 6)
-      (cond (badIntegrity s (kindOf (flagsOf s)) (fieldPlace s)) (refusal 7)
+      (cond (tooShort s) (refusedBy 1)
+      (cond (wrongVersion s) (refusedBy 2)
+      (cond (badFlags (flagsOf s)) (refusedBy 3)
+      (cond (badVariableSize (variableSize s)) (refusedBy 4)
+      (cond (wrongLength s) (refusedBy 5)
+      (cond (badAddresses s (variableSize s)) (refusedBy 6)
+      (cond (badIntegrity s (kindOf (flagsOf s)) (fieldPlace s)) (refusedBy 7)
       (accepted (fieldsOf s)))))))))
   chain =
       in-front (tooShort s) (leastRule s) 1 _ _ (of-judged _ _ (least-always s))

@@ -8,7 +8,7 @@ use Rattle.sum.specs.Crc.{crc32}
 use Rattle.sum.proofs.Computed.{crc32-computes}
 use Rattle.envelope.specs.Addresses.{endsInItsOnlyZero, isAddress, splitsAt, splitsUpTo, badAddresses, firstZero, destinationSize}
 use Rattle.envelope.specs.Announcing.{announces, announcing}
-use Rattle.envelope.specs.Fields.{refusal}
+use Rattle.envelope.specs.Fields.{refusedBy}
 use Rattle.envelope.specs.Flags.{badFlags}
 use Rattle.envelope.specs.Heading.{announced, badVariableSize, heading}
 use Rattle.envelope.specs.IntegrityField.{badIntegrity}
@@ -31,7 +31,7 @@ use Rattle.sheet.proofs.OneFeed.{newFeed, new-between, envelopeC, takes
 sum-damaged : crc32 (take 19 damagedC) ≡ 0xC032AED4
 sum-damaged = crc32-computes (take 19 damagedC) tt
 
-pub reads-damaged : reading damagedC ≡ refusal 7
+pub reads-damaged : reading damagedC ≡ refusedBy 7
 unfolding reading readingWhole heading announced badFlags badVariableSize badAddresses badIntegrity threeAt fourAt
 reads-damaged = rw sum-damaged
 

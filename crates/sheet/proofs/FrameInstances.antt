@@ -24,7 +24,7 @@ use Rattle.envelope.specs.Refusals.{plainly, Gives}
 use Rattle.frame.specs.RoundTrips.{UnwrapsAs, TellsMessage, Kind}
 use Rattle.frame.specs.Sizes.{messageSize, wroteLength}
 use Rattle.frame.specs.Unwrapping.{acknowledgment, unwrapping, Unwraps}
-use Rattle.frame.specs.Wrapping.{WrapOutcome, written, wrapping, acknowledging, putDown, wrote, wrapAnswer, afterWrapping, toldWrapped}
+use Rattle.frame.specs.Wrapping.{WrapOutcome, written, wrapping, acknowledging, putDown, wrote, answerToWrapping, afterWrapping, toldWrapped}
 use Rattle.frame.specs.declared.unwrapper.Acknowledgment.{Acknowledgment}
 use Rattle.frame.specs.declared.unwrapper.DataMessage.{DataMessage}
 use Rattle.frame.specs.declared.refusal.Refusal.the-variants.{NoRoom}
@@ -66,7 +66,7 @@ held-wrapped-then-unwrapped = wrapped-then-unwrapped held 0x01020304 37 carrier 
 
 -- what a call with this outcome answers, and what it leaves in a buffer of zeros
 wrote-it : (o : WrapOutcome) (n : ℕ) (s : List ℕ) → o ≡ written s → n ≡ length s
-    → (toldWrapped (Written n) ≡ wrapAnswer o) × (putDown s (replicate n 0) ≡ afterWrapping o (replicate n 0))
+    → (toldWrapped (Written n) ≡ answerToWrapping o) × (putDown s (replicate n 0) ≡ afterWrapping o (replicate n 0))
 wrote-it o n s e l = rw e (ap wrote l, refl)
 
 pub held-wrapped-buffer-then-unwrapped : TellsMessage (Data tellsHeld) carrier 0x01020304 held
@@ -118,20 +118,20 @@ acknowledge-gave-68 = acknowledge-gives 9 0x01020304 16 (plainly 68) (wrap-cases
 pub refused-reply-left-the-buffer : replicate {A = ℕ} 16 0 ≡ replicate 16 0
 refused-reply-left-the-buffer =
     a-refused-frame-writes-nothing (acknowledging 9 0x01020304 16) (replicate 16 0) (replicate 16 0) (Refused NoRoom) (plainly 68)
-    (sym (ap wrapAnswer (wrap-cases .no-room-acknowledged)), sym (ap (λ (o : WrapOutcome). afterWrapping o (replicate 16 0)) (wrap-cases .no-room-acknowledged))) refl
+    (sym (ap answerToWrapping (wrap-cases .no-room-acknowledged)), sym (ap (λ (o : WrapOutcome). afterWrapping o (replicate 16 0)) (wrap-cases .no-room-acknowledged))) refl
 
 -- ---- what is told of sizes
 
 pub wrap-told-37 : _≡_ {A = ℕ} 37 37
-wrap-told-37 = wrap-tells-its-length held 0x01020304 37 37 (literals held tt) (ap wrapAnswer (wrap-cases .just-room))
+wrap-told-37 = wrap-tells-its-length held 0x01020304 37 37 (literals held tt) (ap answerToWrapping (wrap-cases .just-room))
 
 pub acknowledge-told-17 : _≡_ {A = ℕ} 17 17
-acknowledge-told-17 = acknowledge-tells-its-length 9 0x01020304 17 17 (ap wrapAnswer (wrap-cases .acknowledges))
+acknowledge-told-17 = acknowledge-tells-its-length 9 0x01020304 17 17 (ap answerToWrapping (wrap-cases .acknowledges))
 
 pub carrier-is-no-longer : messageSize (unwrapping carrier) ≤ largestMessage
 carrier-is-no-longer = unwraps-no-longer carrier bytes-of-carrier
 
-pub wrapped-held-is-no-longer : wroteLength (wrapAnswer (wrapping held 0x01020304 37)) ≤ leastSize + largestMessage
+pub wrapped-held-is-no-longer : wroteLength (answerToWrapping (wrapping held 0x01020304 37)) ≤ leastSize + largestMessage
 wrapped-held-is-no-longer = wraps-no-longer held 0x01020304 37 (literals held tt)
 
 -- ---- a capture of two frames, and one that is cut short

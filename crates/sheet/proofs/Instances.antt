@@ -26,7 +26,7 @@ use Rattle.envelope.specs.Refusals.{plainly, Gives}
 use Rattle.envelope.specs.Rewriting.{Rewrites}
 use Rattle.envelope.specs.RoundTrips.{ReadsAs, HandsOut}
 use Rattle.envelope.specs.Told.{Reads}
-use Rattle.envelope.specs.Writing.{WriteOutcome, written, refused, writing, writeAnswer, afterWriting, wrote, toldWriting, Writes, hasZero, badEnd, strayIntegrity}
+use Rattle.envelope.specs.Writing.{WriteOutcome, written, refused, writing, answerToWriting, afterWriting, wrote, toldWriting, Writes, hasZero, badEnd, strayIntegrity}
 use Rattle.envelope.specs.declared.reader.Fault.the-variants.{TooShort}
 use Rattle.envelope.specs.declared.reader.Reading.the-variants.{Accepted}
 use Rattle.envelope.specs.declared.rewriter.Rewriting.the-variants as again
@@ -82,10 +82,10 @@ M-written-then-read = written-then-read givenM 21 M writes-M
 pub M-written-buffer-then-read : ReadsAs M givenM
 M-written-buffer-then-read =
     written-buffer-then-read givenM (replicate 21 0) M (Written 21) 21
-    (ap writeAnswer (sym writes-M), ap (λ (o : WriteOutcome). afterWriting o (replicate 21 0)) (sym writes-M)) refl
+    (ap answerToWriting (sym writes-M), ap (λ (o : WriteOutcome). afterWriting o (replicate 21 0)) (sym writes-M)) refl
 
 writes-in-buffer : Writes givenM (replicate 21 0) (Written 21) M
-writes-in-buffer = (ap writeAnswer (sym writes-M), ap (λ (o : WriteOutcome). afterWriting o (replicate 21 0)) (sym writes-M))
+writes-in-buffer = (ap answerToWriting (sym writes-M), ap (λ (o : WriteOutcome). afterWriting o (replicate 21 0)) (sym writes-M))
 
 reads-M : Reads M (Accepted envelopeM)
 reads-M = sym (starred .a .0)
@@ -117,10 +117,10 @@ M-finds-no-room = refl
 pub no-room-writes-nothing : _≡_ {A = List ℕ} [] []
 no-room-writes-nothing =
     a-refusal-writes-nothing givenM [] [] (Refused NoRoom) 15
-    (ap writeAnswer (sym M-finds-no-room), ap (λ (o : WriteOutcome). afterWriting o []) (sym M-finds-no-room)) refl
+    (ap answerToWriting (sym M-finds-no-room), ap (λ (o : WriteOutcome). afterWriting o []) (sym M-finds-no-room)) refl
 
 pub no-record-keeps-the-list : _≡_ {A = List ℕ} (9 ∷ []) (9 ∷ [])
-unfolding comparing compare.compareAnswer afterComparing badFile
+unfolding comparing compare.answerToComparing afterComparing badFile
 no-record-keeps-the-list = a-refused-comparison-keeps-the-list [] 0 M (9 ∷ []) (9 ∷ []) (comparison.Refused NoRecord) (plainly 22) (refl, refl) refl
 
 made-in : (room : ℕ) → making M room ≡ cond (not (eqb room 512)) (make.refused (plainly 35)) make.made
@@ -250,7 +250,7 @@ unfolding entryAt badFile
 entry-gave-22 = entry-gives [] 0 (plainly 22) refl
 
 pub compare-gave-22 : Gives (21 ∷ 22 ∷ 23 ∷ 24 ∷ 32 ∷ []) (25 ∷ 31 ∷ []) (plainly 22)
-unfolding comparing compare.compareAnswer badFile
+unfolding comparing compare.answerToComparing badFile
 compare-gave-22 = compare-gives [] 0 M (plainly 22) refl
 
 pub make-gave-35 : Gives (33 ∷ 35 ∷ []) (34 ∷ []) (plainly 35)

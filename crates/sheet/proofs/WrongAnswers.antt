@@ -12,7 +12,7 @@ use Rattle.sum.specs.Promise.{Sums}
 use Rattle.sum.specs.Vectors.{digits}
 use Rattle.sum.proofs.Computed.{vectors, crc32-computes}
 use Rattle.envelope.specs.Addresses.{badAddresses}
-use Rattle.envelope.specs.Fields.{absent, refusal}
+use Rattle.envelope.specs.Fields.{absent, refusedBy}
 use Rattle.envelope.specs.Flags.{badFlags, TellsTime, TellsEncryption, TellsCompression, TellsKind}
 use Rattle.envelope.specs.Heading.{announced, badVariableSize, heading}
 use Rattle.envelope.specs.IntegrityField.{badIntegrity}
@@ -83,7 +83,7 @@ fieldAsZeros =
 is-that-sum : crc32 (take 21 fieldAsZeros ++ replicate 4 0) ≡ 0x76B69024
 is-that-sum = crc32-computes (take 21 fieldAsZeros ++ replicate 4 0) tt
 
-reads-as-zeros : reading fieldAsZeros ≡ refusal 7
+reads-as-zeros : reading fieldAsZeros ≡ refusedBy 7
 unfolding reading readingWhole heading announced badFlags badVariableSize badAddresses badIntegrity twoAt threeAt fourAt
 reads-as-zeros = rw (crc32-computes (take 21 fieldAsZeros) tt)
 

@@ -8,7 +8,7 @@ use Rattle.envelope.specs.Fields.{Answer}
 use Rattle.envelope.specs.Lateness.{latenessOf}
 use Rattle.envelope.specs.Qos.{splitting, joining}
 use Rattle.envelope.specs.Sequence.{stepsOn}
-use Rattle.envelope.specs.Writing.{WriteOutcome, writeAnswer, afterWriting}
+use Rattle.envelope.specs.Writing.{WriteOutcome, answerToWriting, afterWriting}
 use Rattle.golden.specs.Checking.{CheckAnswer, checking}
 use Rattle.golden.specs.Comparing.{comparing, afterComparing}
 use Rattle.golden.specs.Comparing as compare
@@ -60,7 +60,7 @@ write-for-c-does-not-touch-nothing r kept =
 pub write-for-c-tells-the-length : (exit : List ℕ) → WritesForC givenM (replicate 21 0) 0 exit → ⊥
 unfolding word
 write-for-c-tells-the-length exit kept =
-    apart 0 (21 * 4294967296) tt (kept .0 ∙ ap (λ (o : WriteOutcome). word (writeSlots (writeAnswer o))) writes-M)
+    apart 0 (21 * 4294967296) tt (kept .0 ∙ ap (λ (o : WriteOutcome). word (writeSlots (answerToWriting o))) writes-M)
 
 -- ---- rewrite: nothing touched; what reading refuses
 
@@ -161,7 +161,7 @@ step-for-c-keeps-the-part-at-the-end kept = apart 0 9 tt (ap (λ (s : List ℕ).
 -- ---- compare: a record that is not there told as same; a place listed on a refusal
 
 pub compare-for-c-refuses-no-record : (exit : List ℕ) → ComparesForC [] 0 M (9 ∷ []) 0 exit → ⊥
-unfolding comparing compare.compareAnswer badFile word
+unfolding comparing compare.answerToComparing badFile word
 compare-for-c-refuses-no-record exit kept = apart 0 22 tt (kept .0)
 
 pub compare-for-c-lists-nothing-on-a-refusal : ComparesForC [] 0 M (9 ∷ []) 22 (0 ∷ []) → ⊥
@@ -263,19 +263,19 @@ unwrap-for-c-keeps-the-commids-on-a-refusal fields after r kept =
 pub wrap-for-c-passes-reading-on : (exit : List ℕ) → WrapsForC (set held 0 5) 0x01020304 [] 67 exit → ⊥
 unfolding word
 wrap-for-c-passes-reading-on exit kept =
-    apart 67 (67 + 2 * 256) tt (kept .0 ∙ ap (λ (o : WrapOutcome). word (wrapSlots (frame.wrapAnswer o))) (wrap-cases .message-refused-first))
+    apart 67 (67 + 2 * 256) tt (kept .0 ∙ ap (λ (o : WrapOutcome). word (wrapSlots (frame.answerToWrapping o))) (wrap-cases .message-refused-first))
 
 pub wrap-for-c-tells-the-frames-length : (exit : List ℕ) → WrapsForC held 0x01020304 (replicate 37 0) (word (sized 24)) exit → ⊥
 unfolding word
 wrap-for-c-tells-the-frames-length exit kept =
-    apart (24 * 4294967296) (37 * 4294967296) tt (kept .0 ∙ ap (λ (o : WrapOutcome). word (wrapSlots (frame.wrapAnswer o))) (wrap-cases .just-room))
+    apart (24 * 4294967296) (37 * 4294967296) tt (kept .0 ∙ ap (λ (o : WrapOutcome). word (wrapSlots (frame.answerToWrapping o))) (wrap-cases .just-room))
 
 pub acknowledge-for-c-tells-the-length : (exit : List ℕ) → AcknowledgesForC 9 0x01020304 (replicate 17 0) 0 exit → ⊥
 unfolding word
 acknowledge-for-c-tells-the-length exit kept =
-    apart 0 (17 * 4294967296) tt (kept .0 ∙ ap (λ (o : WrapOutcome). word (wrapSlots (frame.wrapAnswer o))) (wrap-cases .acknowledges))
+    apart 0 (17 * 4294967296) tt (kept .0 ∙ ap (λ (o : WrapOutcome). word (wrapSlots (frame.answerToWrapping o))) (wrap-cases .acknowledges))
 
 pub acknowledge-for-c-refuses-16-bytes : (exit : List ℕ) → AcknowledgesForC 9 0x01020304 (replicate 16 0) (word (sized 17)) exit → ⊥
 unfolding word
 acknowledge-for-c-refuses-16-bytes exit kept =
-    apart (17 * 4294967296) 68 tt (kept .0 ∙ ap (λ (o : WrapOutcome). word (wrapSlots (frame.wrapAnswer o))) (wrap-cases .no-room-acknowledged))
+    apart (17 * 4294967296) 68 tt (kept .0 ∙ ap (λ (o : WrapOutcome). word (wrapSlots (frame.answerToWrapping o))) (wrap-cases .no-room-acknowledged))

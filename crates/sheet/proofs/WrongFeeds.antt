@@ -184,7 +184,7 @@ a-feed-refusal-keeps-its-number kept = apart 52 51 tt kept
 pub a-feed-refusal-passes-reading-on : NumbersFeedRefusal (MessageRefused (record { fault = BadVariableSize })) 2 → ⊥
 a-feed-refusal-passes-reading-on kept = apart 2 4 tt kept
 
--- ---- announce: a length before 17 bytes are there; a broken heading passed over; another length
+-- ---- announce: a length before 17 bytes are there; a refused heading passed over; another length
 
 announcedIn : AnnouncementAnswer → ℕ
 announcedIn unfinished = 0

@@ -10,7 +10,7 @@ use Rattle.envelope.specs.declared.fields.Envelope.{Envelope}
 use Rattle.envelope.specs.declared.reader.Fault.the-variants.{BadFlags}
 use Rattle.envelope.specs.declared.refusals.Numbers.{Numbers}
 use Rattle.sheet.specs.FrameCases.{held, carrier, reply, hollow}
-use Rattle.frame.specs.Wrapping.{WrapOutcome, afterWrapping, WrapAnswer, wrote, refused, wrapAnswer, Wraps, Acknowledges}
+use Rattle.frame.specs.Wrapping.{WrapOutcome, afterWrapping, WrapAnswer, wrote, refused, answerToWrapping, Wraps, Acknowledges}
 use Rattle.frame.specs.Unwrapping.{UnwrapAnswer, message, acknowledgment, refused, Unwraps}
 use Rattle.frame.specs.Capturing.{MeasuresFirst}
 use Rattle.frame.specs.Refusal.{NumbersFrameRefusal}
@@ -80,7 +80,7 @@ thirteen-bytes-are-no-refusal-61 p = apart 61 67 tt (ap kindTold (p ∙ unwrap-c
 
 -- the message's length for the frame's
 pub wrap-tells-the-frames-length : (exit : List ℕ) → Wraps held 0x01020304 (replicate 37 0) (Written 24) exit → ⊥
-wrap-tells-the-frames-length exit w = apart 24 37 tt (ap answered (w .0 ∙ ap wrapAnswer (wrap-cases .just-room)))
+wrap-tells-the-frames-length exit w = apart 24 37 tt (ap answered (w .0 ∙ ap answerToWrapping (wrap-cases .just-room)))
 
 -- a length answered, and nothing written
 pub wrap-does-not-touch-nothing : (r : code.Wrapped) → Wraps held 0x01020304 (replicate 37 0) r (replicate 37 0) → ⊥

@@ -10,7 +10,7 @@ use Rattle.envelope.specs.Fields.{absent}
 use Rattle.envelope.specs.Numbers.{twoAt}
 use Rattle.envelope.specs.declared.reader.Fault.the-variants.{TooShort}
 use Rattle.golden.specs.Checking.{counted, checking, Checks}
-use Rattle.golden.specs.Comparing.{CompareOutcome, positions, same, different, afterComparing, comparing, compareAnswer, Compares}
+use Rattle.golden.specs.Comparing.{CompareOutcome, positions, same, different, afterComparing, comparing, answerToComparing, Compares}
 use Rattle.golden.specs.File.{badFile, judgedAt}
 use Rattle.golden.specs.Finding.{found, findFrom, finding, Finds}
 use Rattle.golden.specs.Listing.{counting, entryAt, Counts, Enters}
@@ -46,7 +46,7 @@ checks-M = checks M (likeM absent 17 0) (omega arith) (starred .a .0)
 finds-M : finding (recordOf M) (record { messageType = 6000; number = 1 }) ≡ found 0 1
 finds-M = finds M (likeM absent 17 0) (omega arith) (starred .a .0)
 
-compares-M : compareAnswer (comparing (recordOf M) 0 M) ≡ same
+compares-M : answerToComparing (comparing (recordOf M) 0 M) ≡ same
 compares-M = compares M (likeM absent 17 0) (omega arith) (starred .a .0)
 
 compared-M : comparing (recordOf M) 0 M ≡ positions []

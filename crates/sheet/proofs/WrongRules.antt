@@ -6,7 +6,7 @@ use Prim.Native.Nat.{ℕ, _+_}
 use native.Mathlib.Omega.{arith}
 use borrow.Author.Tests.{lt-ltb}
 use lib.ListN.{length, take, set, getD, replicate}
-use Rattle.envelope.specs.Fields.{Answer, accepted, refusal}
+use Rattle.envelope.specs.Fields.{Answer, accepted, refusedBy}
 use Rattle.envelope.specs.Fields as answer
 use Rattle.envelope.specs.Flags.{badFlags}
 use Rattle.envelope.specs.Heading.{heading}
@@ -15,10 +15,10 @@ use Rattle.envelope.specs.Message.{Given, unaddressed, beforeField, fieldNumber
 use Rattle.envelope.specs.Numbers.{twoAt}
 use Rattle.envelope.specs.Reading.{reading}
 use Rattle.envelope.specs.Told.{Reads}
-use Rattle.envelope.specs.Writing.{refused, writing, wrote, writeAnswer, badEnd, hasZero, strayIntegrity, Writes}
+use Rattle.envelope.specs.Writing.{refused, writing, wrote, answerToWriting, badEnd, hasZero, strayIntegrity, Writes}
 use Rattle.envelope.specs.declared.fields.Envelope.{Envelope}
 use Rattle.envelope.specs.declared.reader.Fault.the-variants.{WrongLength}
-use Rattle.envelope.specs.declared.reader.Reading.the-variants.{Accepted, Refused as Unread}
+use Rattle.envelope.specs.declared.reader.Reading.the-variants.{Accepted, Refused as ReadingRefused}
 use Rattle.envelope.specs.declared.writer.Writing.the-variants.{Written}
 use Rattle.golden.specs.Checking.{counted, checkFrom, checking, Checks}
 use Rattle.golden.specs.Checking as check
@@ -47,7 +47,7 @@ pub read-does-not-pass-over-2 : (e : Envelope) → Reads (set M 0 3) (Accepted e
 read-does-not-pass-over-2 e kept = accepted-not-refused _ 2 (kept ∙ starred .c)
 
 -- bit 5, and kind 3
-unassigned : (reading (set M 4 0x20) ≡ refusal 3) × (reading (set M 4 0x18) ≡ refusal 3)
+unassigned : (reading (set M 4 0x20) ≡ refusedBy 3) × (reading (set M 4 0x18) ≡ refusedBy 3)
 unfolding reading heading badFlags
 unassigned = (refl, refl)
 
@@ -60,7 +60,7 @@ read-does-not-pass-over-kind-3 e kept = accepted-not-refused _ 3 (kept ∙ unass
 pub read-does-not-pass-over-4 : (e : Envelope) → Reads (set M 16 5) (Accepted e) → ⊥
 read-does-not-pass-over-4 e kept = accepted-not-refused _ 4 (kept ∙ starred .d .0)
 
-pub read-gives-4-before-5 : Reads (set M 16 5) (Unread (record { fault = WrongLength })) → ⊥
+pub read-gives-4-before-5 : Reads (set M 16 5) (ReadingRefused (record { fault = WrongLength })) → ⊥
 read-gives-4-before-5 kept = apart 5 4 tt (refusal-number 5 4 (kept ∙ starred .d .0))
 
 pub read-does-not-pass-over-5 : (e : Envelope) → Reads (M ++ 0 ∷ []) (Accepted e) → ⊥
@@ -91,8 +91,8 @@ read-does-not-move-the-body e other kept = apart 21 17 tt (sym other ∙ ap body
 wrote-not-refused : (n k : ℕ) → wrote n ≡ refused k → ⊥
 wrote-not-refused n k e = let z : _≡_ {A = ℕ} 0 1 = cc in omega arith
 
-passed-over : (g : Given) (entry : List ℕ) (n k : ℕ) → writing g (length entry) ≡ refused k → wrote n ≡ writeAnswer (writing g (length entry)) → ⊥
-passed-over g entry n k refuses kept = wrote-not-refused n k (kept ∙ ap writeAnswer refuses)
+passed-over : (g : Given) (entry : List ℕ) (n k : ℕ) → writing g (length entry) ≡ refused k → wrote n ≡ answerToWriting (writing g (length entry)) → ⊥
+passed-over g entry n k refuses kept = wrote-not-refused n k (kept ∙ ap answerToWriting refuses)
 
 abbrev like : (flags : ℕ) (source body : List ℕ) (application : ℕ) → Given
 like flags source body application =
@@ -178,9 +178,9 @@ unfolding comparing badFile judgedAt judging badLength storedLength storedWord a
 refused-radio = rw (starred .a .0, starred .b)
 
 pub compare-does-not-pass-over-31 : (entry exit : List ℕ) → Compares (recordOf M) 0 (take 20 M) entry Same exit → ⊥
-unfolding compare.compareAnswer
+unfolding compare.answerToComparing
 compare-does-not-pass-over-31 entry exit kept =
-    let told : compare.same ≡ compare.refused (passingOn 31 (record { number = 1 })) = kept .0 ∙ ap compare.compareAnswer refused-radio in
+    let told : compare.same ≡ compare.refused (passingOn 31 (record { number = 1 })) = kept .0 ∙ ap compare.answerToComparing refused-radio in
     let z : _≡_ {A = ℕ} 0 1 = cc in
     omega arith
 

@@ -6,7 +6,7 @@ use mathlib.Core.List.{List, [], _∷_, _++_}
 use mathlib.Core.Path.{_≡_}
 use lib.IntN.{pos, negsuc}
 use lib.ListN.{length, take, drop, set}
-use Rattle.envelope.specs.Fields.{AddressingFields, absent, present, none, crc, Fields, accepted, refusal}
+use Rattle.envelope.specs.Fields.{AddressingFields, absent, present, none, crc, Fields, accepted, refusedBy}
 use Rattle.envelope.specs.Qos.{splitting}
 use Rattle.envelope.specs.Reading.{wrongLength, reading}
 use Rattle.envelope.specs.Sequence.{distance, behind, sequenceOf}
@@ -57,15 +57,15 @@ fieldsOfC =
 
 pub record StarredCases : Type 0 where
   pub a : (reading M ≡ accepted (likeM absent 17 0)) × (length M ≡ 21)
-  pub b : reading (take 20 M) ≡ refusal 1
-  pub c : reading (set M 0 3) ≡ refusal 2
+  pub b : reading (take 20 M) ≡ refusedBy 1
+  pub c : reading (set M 0 3) ≡ refusedBy 2
   -- though 5 holds as well
-  pub d : (reading (set M 16 5) ≡ refusal 4) × (wrongLength (set M 16 5) ≡ true)
-  pub e : (x : ℕ) → reading (M ++ x ∷ []) ≡ refusal 5
-  pub f : reading (set M 20 1) ≡ refusal 7
+  pub d : (reading (set M 16 5) ≡ refusedBy 4) × (wrongLength (set M 16 5) ≡ true)
+  pub e : (x : ℕ) → reading (M ++ x ∷ []) ≡ refusedBy 5
+  pub f : reading (set M 20 1) ≡ refusedBy 7
   pub g : (x : ℕ) → reading (withBody x) ≡ accepted (likeM absent 17 1)
   pub h : (reading (withAddresses 6 (0 ∷ 0 ∷ [])) ≡ accepted (likeM (ends 0 0) 23 0)) × (length (withAddresses 6 (0 ∷ 0 ∷ [])) ≡ 27)
-  pub i-refused : reading (withAddresses 7 (0x41 ∷ 0x41 ∷ 0 ∷ [])) ≡ refusal 6
+  pub i-refused : reading (withAddresses 7 (0x41 ∷ 0x41 ∷ 0 ∷ [])) ≡ refusedBy 6
   pub i-source : reading (withAddresses 7 (0x41 ∷ 0 ∷ 0 ∷ [])) ≡ accepted (likeM (ends 1 0) 24 0)
   pub i-destination : reading (withAddresses 7 (0 ∷ 0x41 ∷ 0 ∷ [])) ≡ accepted (likeM (ends 0 1) 24 0)
   pub i-differ : reading (withAddresses 7 (0x41 ∷ 0 ∷ 0 ∷ [])) ≡ reading (withAddresses 7 (0 ∷ 0x41 ∷ 0 ∷ [])) → ⊥

@@ -6,7 +6,7 @@ use mathlib.Core.List.{List, [], _∷_}
 use mathlib.Core.Path.{_≡_}
 use lib.ListN.{length, replicate}
 use Rattle.sum.specs.Detection.{Bytes}
-use Rattle.envelope.specs.Fields.{Fields, accepted, refusal}
+use Rattle.envelope.specs.Fields.{Fields, accepted, refusedBy}
 use Rattle.envelope.specs.Flags.{badFlags}
 use Rattle.envelope.specs.Heading.{badVariableSize}
 use Rattle.envelope.specs.Lateness.{lateAfter}
@@ -43,7 +43,7 @@ pub record EmptyFile : Type 0 where
 
 pub record Edges : Type 0 where
   -- reading: no bytes; longer than any message can be; V; flags
-  pub no-bytes : reading [] ≡ refusal 1
+  pub no-bytes : reading [] ≡ refusedBy 1
   pub past-the-longest : (s : List ℕ) (f : Fields) → Bytes s → largestMessage < length s → reading s ≡ accepted f → ⊥
   pub v-0 : badVariableSize 0 ≡ false
   pub v-1 : badVariableSize 1 ≡ true

@@ -3,7 +3,7 @@ use mathlib.Core.Path.{ap, _∙_}
 use borrow.Author.Needs.{needs}
 use lib.ListN.{length}
 use Rattle.envelope.specs.Message.{RoutingFields, Given}
-use Rattle.envelope.specs.Writing.{WriteAnswer, writeAnswer, writing, afterWriting}
+use Rattle.envelope.specs.Writing.{WriteAnswer, answerToWriting, writing, afterWriting}
 use Rattle.exports.proofs.FitsLaws.{write-fits}
 use Rattle.exports.specs.Envelopes.{writeSlots}
 use Rattle.exports.specs.Word.{word}
@@ -40,7 +40,7 @@ returns c =
     let routed = c .before .before .before .before .before .routing-of .ensures in
     let entry = c .before .before .before .before .before .before .before .before .before .before .args .buffer .now in (
       c .write-word .ensures ∙ ap (λ (a : WriteAnswer). word (writeSlots a)) (writes .0)
-          ∙ (λ i. word (writeSlots (writeAnswer (writing (sent (c .before .before .before .before .before .before .before .before .before .before) (routed i)) (length entry))))),
+          ∙ (λ i. word (writeSlots (answerToWriting (writing (sent (c .before .before .before .before .before .before .before .before .before .before) (routed i)) (length entry))))),
       writes .1 ∙ (λ i. afterWriting (writing (sent (c .before .before .before .before .before .before .before .before .before .before) (routed i)) (length entry)) entry),
     )
 
