@@ -9,6 +9,7 @@ pub mod FindingLaws
 pub mod SteppingLaws
 pub mod FewLaws
 pub mod MakingLaws
+pub mod RefusalLaws
 pub mod OnlyLaws
 pub mod WalkLaws
 pub mod FoundLaws

@@ -1,8 +1,9 @@
 -- Meanings of the private helpers' answers. No promise to a user names them.
 -- Beside `Judged` of specs/Record an opened record has its stored length with its fields.
-use Prim.Native.Nat.{ℕ}
-use mathlib.Core.Bool.{cond}
+use Prim.Native.Nat.{ℕ, _+_}
+use mathlib.Core.Bool.{Bool, true, false, cond}
 use mathlib.Core.List.{List}
+use lib.Dec.{ltb}
 use Rattle.envelope.specs.Fields.{Fields}
 use Rattle.envelope.specs.Refusals.{Refused}
 use Rattle.envelope.specs.Told.{toldEnvelope}
@@ -14,6 +15,8 @@ use Rattle.golden.specs.declared.finder.Seen.{Seen}
 use Rattle.golden.specs.declared.finder.Seen.the-variants as seen
 use Rattle.golden.specs.declared.record.Opening.{Opening}
 use Rattle.golden.specs.declared.record.Opening.the-variants.{Good, Bad}
+use Rattle.golden.specs.declared.refusal.Refusal.{Refusal}
+use Rattle.golden.specs.declared.refusal.Refusal.the-variants.{NotAGoldenFile, NoRecord, BadLength, NotClear, RecordRefused, NotFound, RadioRefused, OneBeginsTheOther, TooLong, MessageRefused, WrongBuffer}
 
 pub data Opened : Type 0 where
   holding : ℕ → Fields → Opened
@@ -44,3 +47,34 @@ abbrev pub toldSeen : Seen → Sight
 toldSeen (seen.Bad r) = bad (toldGoldenRefusal r)
 toldSeen seen.Sought = sought
 toldSeen seen.Other = other
+
+-- ---- the table of refusals, by rows; 25 apart
+
+abbrev pub isRecordRefused : Refusal → Bool
+isRecordRefused NotAGoldenFile = false
+isRecordRefused NoRecord = false
+isRecordRefused BadLength = false
+isRecordRefused NotClear = false
+isRecordRefused (RecordRefused r) = true
+isRecordRefused NotFound = false
+isRecordRefused (RadioRefused r) = false
+isRecordRefused OneBeginsTheOther = false
+isRecordRefused TooLong = false
+isRecordRefused (MessageRefused r) = false
+isRecordRefused WrongBuffer = false
+
+abbrev pub rowOf : Refusal → ℕ
+rowOf NotAGoldenFile = 0
+rowOf NoRecord = 1
+rowOf BadLength = 2
+rowOf NotClear = 3
+rowOf (RecordRefused r) = 4
+rowOf NotFound = 5
+rowOf (RadioRefused r) = 6
+rowOf OneBeginsTheOther = 7
+rowOf TooLong = 8
+rowOf (MessageRefused r) = 9
+rowOf WrongBuffer = 10
+
+abbrev pub rowNumber : ℕ → ℕ
+rowNumber row = cond (ltb row 5) (21 + row) (cond (ltb row 6) 27 (25 + row))

@@ -1,4 +1,8 @@
 // The refusals of the golden file, in the order of their numbers. Each operation gives some of them; specs/Gives says which.
+ghost use mathlib.Core.Bool.{false};
+ghost use mathlib.Core.Path.{_≡_};
+ghost use Prim.Native.Nat.{_<_};
+ghost use Rattle.golden.specs.Helpers.{isRecordRefused, rowOf, rowNumber};
 ghost use Rattle.golden.specs.Refusal.{NumbersGoldenRefusal};
 use envelope::Numbers;
 
@@ -17,22 +21,58 @@ pub enum Refusal {
 }
 
 impl Refusal {
-    // The numbers of the table of refusals.
+    // The numbers of the table of refusals. In two steps, for of one large match the compiler makes a table in the archive.
     pub fn numbers(self) -> Numbers
         ensures { λ r. ⌜ NumbersGoldenRefusal self r ⌝ }
     {
         match self {
-            Refusal::NotAGoldenFile => Numbers::plainly(21),
-            Refusal::NoRecord => Numbers::plainly(22),
-            Refusal::BadLength => Numbers::plainly(23),
-            Refusal::NotClear => Numbers::plainly(24),
             Refusal::RecordRefused(refusal) => Numbers::passing_on(25, refusal),
-            Refusal::NotFound => Numbers::plainly(27),
-            Refusal::RadioRefused(refusal) => Numbers::passing_on(31, refusal),
-            Refusal::OneBeginsTheOther => Numbers::plainly(32),
-            Refusal::TooLong => Numbers::plainly(33),
-            Refusal::MessageRefused(refusal) => Numbers::passing_on(34, refusal),
-            Refusal::WrongBuffer => Numbers::plainly(35),
+            _ => self.other_numbers(),
         }
     }
+
+    fn other_numbers(self) -> Numbers
+        requires { ⌜ isRecordRefused self ≡ false ⌝ }
+        ensures { λ r. ⌜ NumbersGoldenRefusal self r ⌝ }
+    {
+        let number = number_of(self.row());
+        match self {
+            Refusal::RadioRefused(refusal) => Numbers::passing_on(number, refusal),
+            Refusal::MessageRefused(refusal) => Numbers::passing_on(number, refusal),
+            _ => Numbers::plainly(number),
+        }
+    }
+
+    // Which row of the table it is.
+    fn row(self) -> u8
+        ensures { λ r. ⌜ r ≡ rowOf self ⌝ }
+    {
+        match self {
+            Refusal::NotAGoldenFile => 0,
+            Refusal::NoRecord => 1,
+            Refusal::BadLength => 2,
+            Refusal::NotClear => 3,
+            Refusal::RecordRefused(_) => 4,
+            Refusal::NotFound => 5,
+            Refusal::RadioRefused(_) => 6,
+            Refusal::OneBeginsTheOther => 7,
+            Refusal::TooLong => 8,
+            Refusal::MessageRefused(_) => 9,
+            Refusal::WrongBuffer => 10,
+        }
+    }
+}
+
+// 21 to 25, 27, and 31 to 35. Counted and not listed, for of a list the compiler makes a table in the archive.
+fn number_of(row: u8) -> u8
+    requires { ⌜ row < 11 ⌝ }
+    ensures { λ r. ⌜ r ≡ rowNumber row ⌝ }
+{
+    if row < 5 {
+        return 21 + row;
+    }
+    if row < 6 {
+        return 27;
+    }
+    25 + row
 }

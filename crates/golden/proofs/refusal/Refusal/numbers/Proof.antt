@@ -1,31 +1,30 @@
--- `Refusal::numbers` is the table of refusals.
+-- `Refusal::numbers`: 25 with what reading refused, or the other rows.
+use mathlib.Core.Bool.{false}
+use mathlib.Core.List.{[], _∷_}
+use mathlib.Core.Path.{_≡_, refl}
 use borrow.Author.Needs.{needs}
+use denote.Enum.Declared.{tagOf}
+use types.Run.{OneOf, miss}
+use Rattle.golden.specs.Helpers.{isRecordRefused}
+use Rattle.golden.specs.declared.refusal.Refusal.{Refusal}
+use Rattle.golden.specs.declared.refusal.Refusal.the-variants.{NotAGoldenFile, NoRecord, BadLength, NotClear, RecordRefused, NotFound, RadioRefused, OneBeginsTheOther, TooLong, MessageRefused, WrongBuffer}
+use Rattle.golden.proofs.refusal.Refusal as type
 use Rattle.golden.proofs.refusal.Refusal.numbers.Statement.{statement}
 use Rattle.golden.proofs.refusal.Refusal.numbers.Tie as tie
 
-enum-told : tie.Need-enum-told
-enum-told c = search needs
-
-plainly-requires : tie.Need-plainly-requires
-plainly-requires c κs = search needs
-
-enum-told-2 : tie.Need-enum-told-2
-enum-told-2 c = search needs
-
-plainly-requires-2 : tie.Need-plainly-requires-2
-plainly-requires-2 c κs = search needs
-
-enum-told-3 : tie.Need-enum-told-3
-enum-told-3 c = search needs
-
-plainly-requires-3 : tie.Need-plainly-requires-3
-plainly-requires-3 c κs = search needs
-
-enum-told-4 : tie.Need-enum-told-4
-enum-told-4 c = search needs
-
-plainly-requires-4 : tie.Need-plainly-requires-4
-plainly-requires-4 c κs = search needs
+-- the last arm, by the places in the enum
+not-of-record : (r : Refusal) → OneOf (0 ∷ 1 ∷ 2 ∷ 3 ∷ 5 ∷ 6 ∷ 7 ∷ 8 ∷ 9 ∷ 10 ∷ []) (tagOf type.the-type r) → isRecordRefused r ≡ false
+not-of-record NotAGoldenFile h = refl
+not-of-record NoRecord h = refl
+not-of-record BadLength h = refl
+not-of-record NotClear h = refl
+not-of-record (RecordRefused r) h = absurd (miss (0 ∷ 1 ∷ 2 ∷ 3 ∷ 5 ∷ 6 ∷ 7 ∷ 8 ∷ 9 ∷ 10 ∷ []) 4 tt h)
+not-of-record NotFound h = refl
+not-of-record (RadioRefused r) h = refl
+not-of-record OneBeginsTheOther h = refl
+not-of-record TooLong h = refl
+not-of-record (MessageRefused r) h = refl
+not-of-record WrongBuffer h = refl
 
 enum-known-self : tie.Need-enum-known-self
 enum-known-self c = search needs
@@ -33,109 +32,15 @@ enum-known-self c = search needs
 passing-on-requires : tie.Need-passing-on-requires
 passing-on-requires c κs = search needs
 
-enum-told-5 : tie.Need-enum-told-5
-enum-told-5 c = search needs
-
-plainly-requires-5 : tie.Need-plainly-requires-5
-plainly-requires-5 c κs = search needs
-
-enum-known-self-2 : tie.Need-enum-known-self-2
-enum-known-self-2 c = search needs
-
-passing-on-requires-2 : tie.Need-passing-on-requires-2
-passing-on-requires-2 c κs = search needs
-
-enum-told-6 : tie.Need-enum-told-6
-enum-told-6 c = search needs
-
-plainly-requires-6 : tie.Need-plainly-requires-6
-plainly-requires-6 c κs = search needs
-
-enum-told-7 : tie.Need-enum-told-7
-enum-told-7 c = search needs
-
-plainly-requires-7 : tie.Need-plainly-requires-7
-plainly-requires-7 c κs = search needs
-
-enum-known-self-3 : tie.Need-enum-known-self-3
-enum-known-self-3 c = search needs
-
-passing-on-requires-3 : tie.Need-passing-on-requires-3
-passing-on-requires-3 c κs = search needs
-
-enum-told-8 : tie.Need-enum-told-8
-enum-told-8 c = search needs
-
-plainly-requires-8 : tie.Need-plainly-requires-8
-plainly-requires-8 c κs = search needs
+other-numbers-requires : tie.Need-other-numbers-requires
+other-numbers-requires c κs = not-of-record (c .before .args .self) (c .match .keys2)
 
 returns : tie.Need-returns
-returns c = rw (c .before .enum-told .given .1) (c .plainly .ensures)
+returns c = rw (c .before .before .self .given .1) (c .passing-on .ensures)
 
 returns-2 : tie.Need-returns-2
-returns-2 c = rw (c .before .enum-told2 .given .1) (c .plainly2 .ensures)
-
-returns-3 : tie.Need-returns-3
-returns-3 c = rw (c .before .enum-told3 .given .1) (c .plainly3 .ensures)
-
-returns-4 : tie.Need-returns-4
-returns-4 c = rw (c .before .enum-told4 .given .1) (c .plainly4 .ensures)
-
-returns-5 : tie.Need-returns-5
-returns-5 c = rw (c .before .before .self .given .1) (c .passing-on .ensures)
-
-returns-6 : tie.Need-returns-6
-returns-6 c = rw (c .before .enum-told5 .given .1) (c .plainly5 .ensures)
-
-returns-7 : tie.Need-returns-7
-returns-7 c = rw (c .before .before .self2 .given .1) (c .passing-on2 .ensures)
-
-returns-8 : tie.Need-returns-8
-returns-8 c = rw (c .before .enum-told6 .given .1) (c .plainly6 .ensures)
-
-returns-9 : tie.Need-returns-9
-returns-9 c = rw (c .before .enum-told7 .given .1) (c .plainly7 .ensures)
-
-returns-10 : tie.Need-returns-10
-returns-10 c = rw (c .before .before .self3 .given .1) (c .passing-on3 .ensures)
-
-returns-11 : tie.Need-returns-11
-returns-11 c = rw (c .before .enum-told8 .given .1) (c .plainly8 .ensures)
+returns-2 c = c .other-numbers .ensures
 
 pub numbers-spec : {M : Type 1} → statement M
 numbers-spec =
-    tie.close
-    (tie.spec
-    enum-told
-    plainly-requires
-    enum-told-2
-    plainly-requires-2
-    enum-told-3
-    plainly-requires-3
-    enum-told-4
-    plainly-requires-4
-    enum-known-self
-    passing-on-requires
-    enum-told-5
-    plainly-requires-5
-    enum-known-self-2
-    passing-on-requires-2
-    enum-told-6
-    plainly-requires-6
-    enum-told-7
-    plainly-requires-7
-    enum-known-self-3
-    passing-on-requires-3
-    enum-told-8
-    plainly-requires-8
-    returns
-    returns-2
-    returns-3
-    returns-4
-    returns-5
-    returns-6
-    returns-7
-    returns-8
-    returns-9
-    returns-10
-    returns-11)
+    tie.close (tie.spec enum-known-self passing-on-requires other-numbers-requires returns returns-2)
