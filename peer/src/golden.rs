@@ -20,14 +20,13 @@ pub enum Refusal {
     Record(Unread),
     NotFound,
     Radio(Unread),
-    Beginning,
     TooLong,
     Message(Unread),
     Buffer,
 }
 
 impl Refusal {
-    /// The refusal's number, and the number reading gave or 0.
+    /// The refusal's number, and the number reading gave or 0. 32 was one of them and is not used again.
     pub fn numbers(self) -> (u8, u8) {
         match self {
             Refusal::NotAFile => (21, 0),
@@ -37,7 +36,6 @@ impl Refusal {
             Refusal::Record(unread) => (25, unread as u8),
             Refusal::NotFound => (27, 0),
             Refusal::Radio(unread) => (31, unread as u8),
-            Refusal::Beginning => (32, 0),
             Refusal::TooLong => (33, 0),
             Refusal::Message(unread) => (34, unread as u8),
             Refusal::Buffer => (35, 0),
@@ -144,12 +142,10 @@ pub fn step<S: Sum>(file: &[u8], record: usize) -> Step {
 }
 
 /// Compares a record with a radio's message: the total of differing places, and as many of them as the list takes.
+/// Both are accepted by then, so neither is a proper beginning of the other; the tests in `beginnings` show it.
 pub fn compare<S: Sum>(file: &[u8], record: usize, radio: &[u8], list: &mut [u32]) -> Result<usize, Refusal> {
     let golden = &file[open::<S>(file, record)?.place];
     envelope::read::<S>(radio).map_err(Refusal::Radio)?;
-    if golden.len() != radio.len() && (golden.starts_with(radio) || radio.starts_with(golden)) {
-        return Err(Refusal::Beginning);
-    }
     let mut total = 0;
     for place in 0..golden.len().max(radio.len()) {
         if golden.get(place) != radio.get(place) {
@@ -188,6 +184,9 @@ pub fn line<S: Sum>(file: &[u8], record: usize) -> Result<Line, Refusal> {
     let Opened { place, fields } = open::<S>(file, record)?;
     Ok(Line { message_type: fields.message_type, number: fields.number, length: place.len() })
 }
+
+#[cfg(test)]
+mod beginnings;
 
 #[cfg(test)]
 mod tests {

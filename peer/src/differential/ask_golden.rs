@@ -131,6 +131,10 @@ pub fn comparison(run: &mut Run, file: &[u8], record: usize, radio: &[u8]) {
             run.holds("places ascend", listed.windows(2).all(|pair| pair[0] < pair[1]), &shown);
             let stored = &file[record * RECORD + PREFIX..][..radio.len().min(RECORD - PREFIX)];
             run.holds("the same are the same bytes", answer.value != 0 || stored == radio, &shown);
+            let length = u16::from_be_bytes([file[record * RECORD], file[record * RECORD + 1]]);
+            let behind = radio.len().abs_diff(length.into());
+            let neither_begins = behind == 0 || answer.value as usize > behind;
+            run.holds("neither message is a proper beginning of the other", neither_begins, &shown);
         }
     }
 }

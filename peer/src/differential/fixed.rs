@@ -25,6 +25,7 @@ pub fn short(run: &mut Run) {
     sequences(run);
     file_lengths(run);
     flipped_bits(run);
+    beginnings(run);
 }
 
 pub fn long(run: &mut Run) {
@@ -89,6 +90,25 @@ fn flipped(run: &mut Run, file: &[u8]) {
     let shown = || format!("file {}", hex(file));
     let answer = ask_golden::check(run, file);
     run.holds("a check sees one or two flipped bits", answer.number == 25, &shown);
+}
+
+/// Each accepted case beside all its proper beginnings, in the record and from the radio, and beside what is longer.
+fn beginnings(run: &mut Run) {
+    run.family("comparisons with proper beginnings");
+    for message in cases::messages().into_iter().filter(|case| case.answer == 0).map(|case| case.message) {
+        let file = inputs::record_of(message.len(), &message);
+        for length in 0..message.len() {
+            run.input();
+            let beginning = &message[..length];
+            ask_golden::comparison(run, &file, 0, beginning);
+            ask_golden::comparison(run, &inputs::record_of(length, beginning), 0, &message);
+        }
+        for behind in 1..10 {
+            run.input();
+            let longer = [message.clone(), run.random.bytes(behind)].concat();
+            ask_golden::comparison(run, &file, 0, &longer);
+        }
+    }
 }
 
 /// Every flags byte with every variable header size.

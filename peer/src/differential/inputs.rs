@@ -198,7 +198,7 @@ pub fn shaped(random: &mut Random, length: usize, flags: u8, variable: u8) -> Ve
 }
 
 /// A record that stores this length before these bytes.
-fn record_of(length: usize, message: &[u8]) -> Vec<u8> {
+pub fn record_of(length: usize, message: &[u8]) -> Vec<u8> {
     let mut record = [&(length as u16).to_be_bytes(), message].concat();
     record.resize(RECORD, 0);
     record

@@ -1,5 +1,6 @@
 //! How often each operation gave each answer, and which answers a full run must have seen.
-//! 32 is left out: no accepted message is a proper beginning of another.
+//! 32 is no number of the library: the peer never gives it, and a run compares whole answers and ends at the first that
+//! differs, so a 32 from the archive fails the run, as does any other number that the peer does not give.
 
 use crate::interface::{Answer, RULES};
 use crate::interface::{ACKNOWLEDGMENT, AHEAD, BEHIND, BROKEN, DATA_MESSAGE, KEPT, NEXT, NOT_JUDGED, REPEAT};

@@ -8,7 +8,7 @@ mod frame_lines;
 mod golden_scenes;
 mod judge_lines;
 mod not_understood;
-mod sketch;
+pub(crate) mod sketch;
 mod spelled;
 
 use crate::random::Random;
