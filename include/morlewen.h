@@ -65,7 +65,7 @@ enum {
     MORLEWEN_RECORD_REFUSED = 25,        /* reading refuses the record's message; the slot `reading` says why */
     MORLEWEN_NOT_FOUND = 27,             /* every record is good, and none has that type and number */
     MORLEWEN_RADIO_REFUSED = 31,         /* reading refuses the radio's message; the slot `reading` says why */
-    MORLEWEN_ONE_BEGINS_THE_OTHER = 32,  /* one of the two messages is a proper beginning of the other */
+    /* 32 is not used: of two messages that reading accepts neither is the beginning of the other */
     MORLEWEN_MESSAGE_TOO_LONG = 33,      /* a message for a record is over 510 bytes */
     MORLEWEN_MESSAGE_REFUSED = 34,       /* reading refuses that message; the slot `reading` says why */
     MORLEWEN_WRONG_BUFFER = 35,          /* the buffer for a record is not 512 bytes */
@@ -222,7 +222,7 @@ uint64_t morlewen_step(const uint8_t *file, size_t length, size_t record, uint64
 
 /* Compares one record with a radio's message. Done: `value` is how many places differ, 0 where the two are the same; a place
  * that only the longer has differs. The places go into `places`, ascending, as far as it has room; the rest of it is
- * untouched. Refused: 21 to 25, 31, 32. */
+ * untouched. Refused: 21 to 25, 31. */
 uint64_t morlewen_compare(const uint8_t *file, size_t length, size_t record, const uint8_t *radio, size_t radio_length,
                           uint32_t *places, size_t room);
 

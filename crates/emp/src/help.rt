@@ -72,7 +72,6 @@ fn golden_refusals() {
 
 fn radio_refusals() {
     refusal(31);
-    refusal(32);
     refusal(33);
     refusal(34);
     refusal(35);

@@ -58,10 +58,6 @@ fn words_of_golden(to: i32, number: u8) {
 fn words_of_radio(to: i32, number: u8) {
     match number {
         31 => say(to, b"the radio's message is refused by reading"),
-        32 => say(
-            to,
-            b"the golden or the radio's message is only the beginning of the other",
-        ),
         33 => say(
             to,
             b"the message is over 510 bytes, the most that a record holds",

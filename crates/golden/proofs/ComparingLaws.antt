@@ -11,7 +11,7 @@ use lib.ListN.{length}
 use Rattle.envelope.specs.Fields.{Span, Fields}
 use Rattle.envelope.specs.Reading.{reading}
 use Rattle.envelope.specs.Refusals.{Refused, plainly}
-use Rattle.golden.specs.Comparing.{CompareOutcome, refused, withRadio, withRecord, comparing, longer, differing, isProperBeginning, comparingMessages, afterComparing, CompareAnswer, same, different, answerToComparing}
+use Rattle.golden.specs.Comparing.{CompareOutcome, refused, withRadio, withRecord, comparing, longer, differing, positions, afterComparing, CompareAnswer, same, different, answerToComparing}
 use Rattle.golden.specs.File.{badFile, notThere, recordAt, judgedAt}
 use Rattle.golden.specs.Positions.{noted}
 use Rattle.golden.specs.Record.{messageOf, Judged, good, bad}
@@ -31,19 +31,14 @@ longer-below g r m h k = below-both (ltb (length g) (length r))
     below-both true = k
     below-both false = h
 
-module _ (g r l : List ℕ) (b : Bool) (e : b ≡ isProperBeginning g r) where
-  pub is-32 : b ≡ true → (refused (plainly 32) ≡ answerToComparing (comparingMessages g r)) × (l ≡ afterComparing (comparingMessages g r) l)
-  unfolding comparingMessages answerToComparing afterComparing
-  is-32 h = let f : isProperBeginning g r ≡ true = sym e ∙ h in (rw f, rw f)
+module _ (g r l l′ : List ℕ) (t : ℕ) (q : t ≡ length (differing g r)) (s : l′ ≡ noted (differing g r) l) where
+  pub is-same : t ≡ 0 → (same ≡ answerToComparing (positions (differing g r))) × (l′ ≡ afterComparing (positions (differing g r)) l)
+  unfolding answerToComparing afterComparing
+  is-same z = (rw (← q, eq-eqb _ _ z), s)
 
-  module _ (h : b ≡ false) (l′ : List ℕ) (t : ℕ) (q : t ≡ length (differing g r)) (s : l′ ≡ noted (differing g r) l) where
-    pub is-same : t ≡ 0 → (same ≡ answerToComparing (comparingMessages g r)) × (l′ ≡ afterComparing (comparingMessages g r) l)
-    unfolding comparingMessages answerToComparing afterComparing
-    is-same z = let f : isProperBeginning g r ≡ false = sym e ∙ h in (rw (f, ← q, eq-eqb _ _ z), rw f s)
-
-    pub is-different : (t ≡ 0 → ⊥) → (different t ≡ answerToComparing (comparingMessages g r)) × (l′ ≡ afterComparing (comparingMessages g r) l)
-    unfolding comparingMessages answerToComparing afterComparing
-    is-different z = let f : isProperBeginning g r ≡ false = sym e ∙ h in (rw (f, ← q, ne-eqb _ _ z), rw f s)
+  pub is-different : (t ≡ 0 → ⊥) → (different t ≡ answerToComparing (positions (differing g r))) × (l′ ≡ afterComparing (positions (differing g r)) l)
+  unfolding answerToComparing afterComparing
+  is-different z = (rw (← q, ne-eqb _ _ z), s)
 
 -- ---- comparing a record, from the answer of a step
 
@@ -103,6 +98,6 @@ unfolding answerToComparing afterComparing
 refuses o x l e = (rw e, rw e)
 
 -- two messages are compared under another name of the first
-pub compares-same : (o : CompareOutcome) (g h r l₀ l : List ℕ) (x : CompareAnswer) → g ≡ h → o ≡ comparingMessages h r
-    → (x ≡ answerToComparing (comparingMessages g r)) × (l ≡ afterComparing (comparingMessages g r) l₀) → (x ≡ answerToComparing o) × (l ≡ afterComparing o l₀)
+pub compares-same : (o : CompareOutcome) (g h r l₀ l : List ℕ) (x : CompareAnswer) → g ≡ h → o ≡ positions (differing h r)
+    → (x ≡ answerToComparing (positions (differing g r))) × (l ≡ afterComparing (positions (differing g r)) l₀) → (x ≡ answerToComparing o) × (l ≡ afterComparing o l₀)
 compares-same o g h r l₀ l x eg eo c = rw (eo, ← eg) c

@@ -16,7 +16,7 @@ use Rattle.envelope.specs.Reading.{reading}
 use Rattle.envelope.specs.Refusals.{Refused, plainly, passingOn}
 use Rattle.golden.specs.Checking.{CheckAnswer, checking}
 use Rattle.golden.specs.Checking as check
-use Rattle.golden.specs.Comparing.{differsAt, longer, differing, isProperBeginning, positions, refused, comparingMessages, withRadio, withRecord, comparing, same, different, answerToComparing}
+use Rattle.golden.specs.Comparing.{differsAt, longer, differing, positions, refused, withRadio, withRecord, comparing, same, different, answerToComparing}
 use Rattle.golden.specs.File.{mostRecords, badFile, countOf, notThere, recordAt, judgedAt}
 use Rattle.golden.specs.Finding.{FindAnswer, finding}
 use Rattle.golden.specs.Listing.{counting}
@@ -104,13 +104,8 @@ nothing-of : (x : Refused) (m : ℕ) → differenceTotal (answerToComparing (ref
 unfolding answerToComparing
 nothing-of x m = omega arith
 
-messages-total : (g r : List ℕ) (m : ℕ) → length g ≤ m → length r ≤ m → differenceTotal (answerToComparing (comparingMessages g r)) ≤ m
-unfolding comparingMessages
-messages-total g r m hg hr = go (isProperBeginning g r)
-  where
-    go : (b : Bool) → differenceTotal (answerToComparing (cond b (refused (plainly 32)) (positions (differing g r)))) ≤ m
-    go true = nothing-of (plainly 32) m
-    go false = omega (arith, total-of (differing g r), differing-few g r, longer-below g r (m + 1) (omega arith) (omega arith))
+messages-total : (g r : List ℕ) (m : ℕ) → length g ≤ m → length r ≤ m → differenceTotal (answerToComparing (positions (differing g r))) ≤ m
+messages-total g r m hg hr = omega (arith, total-of (differing g r), differing-few g r, longer-below g r (m + 1) (omega arith) (omega arith))
 
 with-radio : (g radio : List ℕ) → length g ≤ messageRoom → Bytes radio → (a : Answer) → reading radio ≡ a
     → differenceTotal (answerToComparing (withRadio g radio a)) ≤ largestMessage

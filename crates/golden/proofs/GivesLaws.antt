@@ -127,31 +127,23 @@ entry-gives f n r e = subst InEntry e (go (badFile f) (notThere f n) (judgedAt f
 abbrev InCompare : compare.CompareAnswer → Type 0
 InCompare compare.same = Unit
 InCompare (compare.different n) = Unit
-InCompare (compare.refused r) = Gives (21 ∷ 22 ∷ 23 ∷ 24 ∷ 32 ∷ []) (25 ∷ 31 ∷ []) r
+InCompare (compare.refused r) = Gives (21 ∷ 22 ∷ 23 ∷ 24 ∷ []) (25 ∷ 31 ∷ []) r
 
 counted : (b : Bool) (n : ℕ) → InCompare (cond b compare.same (compare.different n))
 counted true n = tt
 counted false n = tt
 
-messages-give : (g radio : List ℕ) → InCompare (compare.answerToComparing (compare.comparingMessages g radio))
-unfolding compare.comparingMessages compare.answerToComparing
-messages-give g radio = go (compare.isProperBeginning g radio)
-  where
-    go : (b : Bool) → InCompare (compare.answerToComparing (cond b (compare.refused (plainly 32)) (compare.positions (compare.differing g radio))))
-    go true = refl
-    go false = counted (eqb (length (compare.differing g radio)) 0) (length (compare.differing g radio))
-
 radio-gives : (g radio : List ℕ) (x : Answer) → InCompare (compare.answerToComparing (compare.withRadio g radio x))
 unfolding compare.answerToComparing
 radio-gives g radio (envelope.refused r) = refl
-radio-gives g radio (accepted f) = messages-give g radio
+radio-gives g radio (accepted f) = counted (eqb (length (compare.differing g radio)) 0) (length (compare.differing g radio))
 
 pub compare-gives : CompareGives
 unfolding compare.comparing compare.answerToComparing
 compare-gives f n radio r e =
-    subst InCompare e (go (badFile f) (notThere f n) (judgedAt f n) (judged-gives (21 ∷ 22 ∷ 23 ∷ 24 ∷ 32 ∷ []) (25 ∷ 31 ∷ []) refl refl refl f n))
+    subst InCompare e (go (badFile f) (notThere f n) (judgedAt f n) (judged-gives (21 ∷ 22 ∷ 23 ∷ 24 ∷ []) (25 ∷ 31 ∷ []) refl refl refl f n))
   where
-    go : (a b : Bool) (j : Judged) → InJudged (21 ∷ 22 ∷ 23 ∷ 24 ∷ 32 ∷ []) (25 ∷ 31 ∷ []) refl refl refl j
+    go : (a b : Bool) (j : Judged) → InJudged (21 ∷ 22 ∷ 23 ∷ 24 ∷ []) (25 ∷ 31 ∷ []) refl refl refl j
         → InCompare (compare.answerToComparing (cond a (compare.refused (plainly 21)) (cond b (compare.refused (plainly 22)) (compare.withRecord (messageOf (recordAt f n)) radio j))))
     go true b j h = refl
     go false true j h = refl

@@ -2,7 +2,6 @@ pub mod RecordLaws
 pub mod FileLaws
 pub mod SelectLaws
 pub mod PositionLaws
-pub mod BeginningLaws
 pub mod OpeningLaws
 pub mod ComparingLaws
 pub mod FindingLaws
@@ -16,6 +15,7 @@ pub mod FoundLaws
 pub mod CheckedLaws
 pub mod SameLaws
 pub mod GivesLaws
+pub mod BeginningLaws
 pub mod DemandLaws
 pub mod KeptLaws
 pub mod MadeLaws

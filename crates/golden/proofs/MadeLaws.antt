@@ -18,7 +18,7 @@ use Rattle.envelope.specs.Numbers.{inTwo}
 use Rattle.envelope.specs.Reading.{reading}
 use Rattle.envelope.specs.Refusals.{plainly, passingOn}
 use Rattle.golden.specs.Checking.{counted, checking}
-use Rattle.golden.specs.Comparing.{differsAt, differing, isProperBeginning, positions, comparingMessages, comparing, same, answerToComparing}
+use Rattle.golden.specs.Comparing.{differsAt, differing, positions, comparing, same, answerToComparing}
 use Rattle.golden.specs.File.{badFile, countOf, recordAt, judgedAt}
 use Rattle.golden.specs.Finding.{nameOf, found, finding}
 use Rattle.golden.specs.Making.{recordOf, MakeAnswer, made, refused, makingRead, making, afterMaking}
@@ -69,14 +69,6 @@ no-differences m =
     rw (le-ltb (length m) (length m) (omega arith))
     (select-none (differsAt m m) 0 (length m) (λ i a b. no-difference m i (omega arith)))
 
-not-its-own-beginning : (m : List ℕ) → isProperBeginning m m ≡ false
-unfolding isProperBeginning
-not-its-own-beginning m = rw (le-ltb (length m) (length m) (omega arith))
-
-compares-same : (m : List ℕ) → comparingMessages m m ≡ positions []
-unfolding comparingMessages
-compares-same m = rw (not-its-own-beginning m) (ap positions (no-differences m))
-
 -- ---- the file of one record
 
 module _ (m : List ℕ) (fields : Fields) (short : length m ≤ messageRoom) (accepts : reading m ≡ accepted fields) where
@@ -120,7 +112,7 @@ module _ (m : List ℕ) (fields : Fields) (short : length m ≤ messageRoom) (ac
 
   pub compared : comparing file 0 m ≡ positions []
   unfolding comparing
-  compared = rw (whole, one, judged, accepts, first, message-back m) (compares-same m)
+  compared = rw (whole, one, judged, accepts, first, message-back m) (ap positions (no-differences m))
 
   pub compares : answerToComparing (comparing file 0 m) ≡ same
   unfolding answerToComparing

@@ -15,7 +15,7 @@ use Rattle.envelope.specs.Fields.{Answer, accepted}
 use Rattle.envelope.specs.Fields as envelope
 use Rattle.envelope.specs.Reading.{reading}
 use Rattle.envelope.specs.Refusals.{Refused}
-use Rattle.golden.specs.Comparing.{differsAt, longer, differing, isProperBeginning, CompareOutcome, positions, refused, comparingMessages, withRadio, withRecord, comparing, same, different, answerToComparing}
+use Rattle.golden.specs.Comparing.{differsAt, longer, differing, CompareOutcome, positions, refused, withRadio, withRecord, comparing, same, different, answerToComparing}
 use Rattle.golden.specs.File.{badFile, notThere, recordAt, judgedAt}
 use Rattle.golden.specs.Record.{Judged, good, bad, messageOf}
 use Rattle.golden.specs.Theorems.{SameIsEqual}
@@ -55,10 +55,8 @@ no-position (refused x) e = absurd (let z : _≡_ {A = ℕ} 0 1 = cc in omega ar
 refused-has-none : {x : Refused} {ks : List ℕ} → refused x ≡ positions ks → ⊥
 refused-has-none e = let z : _≡_ {A = ℕ} 0 1 = cc in omega arith
 
-of-messages : (g r : List ℕ) → comparingMessages g r ≡ positions [] → g ≡ r
-unfolding comparingMessages
+of-messages : (g r : List ℕ) → positions (differing g r) ≡ positions [] → g ≡ r
 of-messages g r e =
-    let p = past (isProperBeginning g r) refused-has-none e .1 in
     let d : differing g r ≡ [] = cc in
     equal-messages g r d
 

@@ -1,8 +1,8 @@
 -- Compare one record with a radio's message: same, or different with the total of differing positions. RULES 5.
 -- A position below only one of the two lengths differs. No refusal writes to the list.
 use Prim.Native.Nat.{ℕ}
-use mathlib.Core.Bool.{Bool, true, false, cond, not, _&&_, _||_}
-use mathlib.Core.List.{List, [], _∷_}
+use mathlib.Core.Bool.{Bool, cond, not, _||_}
+use mathlib.Core.List.{List}
 use mathlib.Core.Path.{_≡_}
 use lib.Dec.{eqb, leb, ltb}
 use lib.ListN.{length, getD}
@@ -28,28 +28,14 @@ longer g r = cond (ltb (length g) (length r)) (length r) (length g)
 unfoldable pub differing : List ℕ → List ℕ → List ℕ
 differing g r = select (differsAt g r) 0 (longer g r)
 
-unfoldable pub isBeginning : List ℕ → List ℕ → Bool
-isBeginning [] t = true
-isBeginning (x ∷ s) [] = false
-isBeginning (x ∷ s) (y ∷ t) = eqb x y && isBeginning s t
-
--- 32: one is a proper beginning of the other
-unfoldable pub isProperBeginning : List ℕ → List ℕ → Bool
-isProperBeginning g r =
-    ltb (length g) (length r) && isBeginning g r || ltb (length r) (length g) && isBeginning r g
-
 pub data CompareOutcome : Type 0 where
   positions : List ℕ → CompareOutcome
   refused : Refused → CompareOutcome
 
--- golden message g and radio message r
-unfoldable pub comparingMessages : List ℕ → List ℕ → CompareOutcome
-comparingMessages g r = cond (isProperBeginning g r) (refused (plainly 32)) (positions (differing g r))
-
--- 31, once the record is good
+-- golden message g and radio message r: 31, once the record is good
 abbrev pub withRadio : List ℕ → List ℕ → Answer → CompareOutcome
 withRadio g r (read.refused x) = refused (passingOn 31 x)
-withRadio g r (accepted fields) = comparingMessages g r
+withRadio g r (accepted fields) = positions (differing g r)
 
 abbrev pub withRecord : List ℕ → List ℕ → Judged → CompareOutcome
 withRecord g r (bad x) = refused x

@@ -33,7 +33,7 @@ EntryGives = (f : List ℕ) (n : ℕ) (r : Refused) → list.entryAt f n ≡ lis
 abbrev pub CompareGives : Type 0
 CompareGives =
     (f : List ℕ) (n : ℕ) (radio : List ℕ) (r : Refused) → compare.answerToComparing (compare.comparing f n radio) ≡ compare.refused r
-    → Gives (21 ∷ 22 ∷ 23 ∷ 24 ∷ 32 ∷ []) (25 ∷ 31 ∷ []) r
+    → Gives (21 ∷ 22 ∷ 23 ∷ 24 ∷ []) (25 ∷ 31 ∷ []) r
 
 abbrev pub MakeGives : Type 0
 MakeGives = (m : List ℕ) (room : ℕ) (r : Refused) → make.making m room ≡ make.refused r → Gives (33 ∷ 35 ∷ []) (34 ∷ []) r

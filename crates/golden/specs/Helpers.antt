@@ -16,7 +16,7 @@ use Rattle.golden.specs.declared.finder.Seen.the-variants as seen
 use Rattle.golden.specs.declared.record.Opening.{Opening}
 use Rattle.golden.specs.declared.record.Opening.the-variants.{Good, Bad}
 use Rattle.golden.specs.declared.refusal.Refusal.{Refusal}
-use Rattle.golden.specs.declared.refusal.Refusal.the-variants.{NotAGoldenFile, NoRecord, BadLength, NotClear, RecordRefused, NotFound, RadioRefused, OneBeginsTheOther, TooLong, MessageRefused, WrongBuffer}
+use Rattle.golden.specs.declared.refusal.Refusal.the-variants.{NotAGoldenFile, NoRecord, BadLength, NotClear, RecordRefused, NotFound, RadioRefused, TooLong, MessageRefused, WrongBuffer}
 
 pub data Opened : Type 0 where
   holding : ℕ → Fields → Opened
@@ -58,7 +58,6 @@ isRecordRefused NotClear = false
 isRecordRefused (RecordRefused r) = true
 isRecordRefused NotFound = false
 isRecordRefused (RadioRefused r) = false
-isRecordRefused OneBeginsTheOther = false
 isRecordRefused TooLong = false
 isRecordRefused (MessageRefused r) = false
 isRecordRefused WrongBuffer = false
@@ -71,10 +70,9 @@ rowOf NotClear = 3
 rowOf (RecordRefused r) = 4
 rowOf NotFound = 5
 rowOf (RadioRefused r) = 6
-rowOf OneBeginsTheOther = 7
-rowOf TooLong = 8
-rowOf (MessageRefused r) = 9
-rowOf WrongBuffer = 10
+rowOf TooLong = 7
+rowOf (MessageRefused r) = 8
+rowOf WrongBuffer = 9
 
 abbrev pub rowNumber : ℕ → ℕ
-rowNumber row = cond (ltb row 5) (21 + row) (cond (ltb row 6) 27 (25 + row))
+rowNumber row = cond (ltb row 5) (21 + row) (cond (ltb row 6) 27 (cond (ltb row 7) 31 (26 + row)))

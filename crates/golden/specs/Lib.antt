@@ -8,6 +8,7 @@ pub mod Walking
 pub mod Listing
 pub mod Positions
 pub mod Comparing
+pub mod Beginning
 pub mod Making
 pub mod Gives
 pub mod Helpers

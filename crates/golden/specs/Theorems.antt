@@ -18,7 +18,7 @@ use Rattle.envelope.specs.Refusals.{Refused, plainly, passingOn}
 use Rattle.envelope.specs.TwoBits.{bitsApart, summed, fieldOf}
 use Rattle.golden.specs.Checking.{CheckAnswer, counted, checking}
 use Rattle.golden.specs.Checking as check
-use Rattle.golden.specs.Comparing.{isProperBeginning, comparing, CompareAnswer, same, different, refused, answerToComparing, toldComparison, Compares}
+use Rattle.golden.specs.Comparing.{comparing, CompareAnswer, same, different, refused, answerToComparing, toldComparison, Compares}
 use Rattle.golden.specs.File.{mostRecords, badFile, countOf, recordAt, judgedAt}
 use Rattle.golden.specs.Finding.{NameFields, hasName, nameOf, FindAnswer, found, finding}
 use Rattle.golden.specs.Finding as find
@@ -142,11 +142,6 @@ MadeIsGood = (m entry exit : List ℕ) (a : Making) → Makes m entry a exit →
 
 abbrev pub NeverTooShort : Type 0
 NeverTooShort = (f : List ℕ) (n : ℕ) (r : Refusal) → n < countOf f → judgedAt f n ≡ bad (passingOn 25 r) → r .number ≡ 1 → ⊥
-
--- ---- 32 never comes about: of two accepted messages neither is a proper beginning of the other
-
-abbrev pub NeverABeginning : Type 0
-NeverABeginning = (g r : List ℕ) (fg fr : Fields) → reading g ≡ accepted fg → reading r ≡ accepted fr → isProperBeginning g r ≡ false
 
 -- ---- how large an answer can be: no more records than a file may hold, no more places than the longest message has
 

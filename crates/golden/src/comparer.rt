@@ -3,7 +3,7 @@ ghost use mathlib.Core.Path.{_≡_};
 ghost use mathlib.Core.Bool.{cond};
 ghost use Prim.Native.Nat.{_+_, _≤_, _<_, _^_};
 ghost use lib.ListN.{length, set};
-ghost use Rattle.golden.specs.Comparing.{differsAt, longer, differing, isBeginning, isProperBeginning, comparingMessages, afterComparing, answerToComparing, toldComparison, Compares};
+ghost use Rattle.golden.specs.Comparing.{differsAt, longer, differing, positions, afterComparing, answerToComparing, toldComparison, Compares};
 ghost use Rattle.golden.specs.Positions.{noted};
 use crate::positions::note;
 use crate::refusal::Refusal;
@@ -34,12 +34,9 @@ pub fn compare(file: &[u8], n: usize, radio: &[u8], list: &mut [u32]) -> Compari
 // Two accepted messages.
 fn compare_messages(golden: &[u8], radio: &[u8], list: &mut [u32]) -> Comparison
     requires { ⌜ (length (now golden) < 2 ^ 32) × (length (now radio) < 2 ^ 32) ⌝ }
-    ensures { λ r. ⌜ (toldComparison r ≡ answerToComparing (comparingMessages (now (golden .entry)) (now (radio .entry))))
-        × (now (list .exit) ≡ afterComparing (comparingMessages (now (golden .entry)) (now (radio .entry))) (now (list .entry))) ⌝ }
+    ensures { λ r. ⌜ (toldComparison r ≡ answerToComparing (positions (differing (now (golden .entry)) (now (radio .entry)))))
+        × (now (list .exit) ≡ afterComparing (positions (differing (now (golden .entry)) (now (radio .entry)))) (now (list .entry))) ⌝ }
 {
-    if is_proper_beginning(golden, radio) {
-        return Comparison::Refused(Refusal::OneBeginsTheOther);
-    }
     let total = list_positions(golden, radio, list);
     if total == 0 {
         return Comparison::Same;
@@ -95,33 +92,4 @@ fn longer_length(golden: &[u8], radio: &[u8]) -> usize
         return radio.len();
     }
     golden.len()
-}
-
-// Whether one of the two is a proper beginning of the other.
-fn is_proper_beginning(golden: &[u8], radio: &[u8]) -> bool
-    ensures { λ r. ⌜ r ≡ isProperBeginning (now (golden .entry)) (now (radio .entry)) ⌝ }
-{
-    if golden.len() < radio.len() {
-        return is_beginning(golden, radio);
-    }
-    if radio.len() < golden.len() {
-        return is_beginning(radio, golden);
-    }
-    false
-}
-
-fn is_beginning(start: &[u8], whole: &[u8]) -> bool
-    ensures { λ r. ⌜ r ≡ isBeginning (now (start .entry)) (now (whole .entry)) ⌝ }
-{
-    let mut i = 0;
-    while i < start.len() {
-        if whole.len() <= i {
-            return false;
-        }
-        if start[i] != whole[i] {
-            return false;
-        }
-        i += 1;
-    }
-    true
 }

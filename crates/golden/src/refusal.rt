@@ -14,7 +14,6 @@ pub enum Refusal {
     RecordRefused(envelope::Refusal),
     NotFound,
     RadioRefused(envelope::Refusal),
-    OneBeginsTheOther,
     TooLong,
     MessageRefused(envelope::Refusal),
     WrongBuffer,
@@ -55,17 +54,16 @@ impl Refusal {
             Refusal::RecordRefused(_) => 4,
             Refusal::NotFound => 5,
             Refusal::RadioRefused(_) => 6,
-            Refusal::OneBeginsTheOther => 7,
-            Refusal::TooLong => 8,
-            Refusal::MessageRefused(_) => 9,
-            Refusal::WrongBuffer => 10,
+            Refusal::TooLong => 7,
+            Refusal::MessageRefused(_) => 8,
+            Refusal::WrongBuffer => 9,
         }
     }
 }
 
-// 21 to 25, 27, and 31 to 35. Counted and not listed, for of a list the compiler makes a table in the archive.
+// 21 to 25, 27, 31, and 33 to 35. Counted and not listed, for of a list the compiler makes a table in the archive.
 fn number_of(row: u8) -> u8
-    requires { ⌜ row < 11 ⌝ }
+    requires { ⌜ row < 10 ⌝ }
     ensures { λ r. ⌜ r ≡ rowNumber row ⌝ }
 {
     if row < 5 {
@@ -74,5 +72,8 @@ fn number_of(row: u8) -> u8
     if row < 6 {
         return 27;
     }
-    25 + row
+    if row < 7 {
+        return 31;
+    }
+    26 + row
 }

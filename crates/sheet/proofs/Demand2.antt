@@ -6,7 +6,8 @@ use Rattle.envelope.specs.Qos.{JoinsWhatWasSplit, SplitsWhatWasJoined}
 use Rattle.envelope.specs.RoundTrips.{WrittenThenRead, WrittenBufferThenRead, WrittenThenHandedOut, ReadThenWritten, HandedOutThenWritten, SameFieldsSameBytes}
 use Rattle.envelope.proofs.QosLaws.{joins-what-was-split, splits-what-was-joined}
 use Rattle.envelope.proofs.RoundTripLaws as trips
-use Rattle.golden.specs.Theorems.{FileWalksInOrder, OtherFileStays, CheckedAreGood, GoodAreChecked, CheckNamesTheFirst, FirstBadIsNamed, FindsTheFirst, FindGivesItsReason, ReasonSettlesFind, SameIsEqual, MadeIsGood, NeverTooShort, NeverABeginning}
+use Rattle.golden.specs.Beginning.{NeverABeginning, Never32, CompareIsUnchanged, CompareNeverGives32}
+use Rattle.golden.specs.Theorems.{FileWalksInOrder, OtherFileStays, CheckedAreGood, GoodAreChecked, CheckNamesTheFirst, FirstBadIsNamed, FindsTheFirst, FindGivesItsReason, ReasonSettlesFind, SameIsEqual, MadeIsGood, NeverTooShort}
 use Rattle.golden.proofs.BeginningLaws as beginning
 use Rattle.golden.proofs.CheckedLaws as checked
 use Rattle.golden.proofs.FoundLaws as found
@@ -82,5 +83,15 @@ made-is-good = made.made-is-good
 pub never-too-short : NeverTooShort
 never-too-short = made.never-too-short
 
+-- why compare has no refusal 32, and that nothing else changed without it
 pub never-a-beginning : NeverABeginning
 never-a-beginning = beginning.never-a-beginning
+
+pub never-32 : Never32
+never-32 = beginning.never-32
+
+pub compare-is-unchanged : CompareIsUnchanged
+compare-is-unchanged = beginning.compare-is-unchanged
+
+pub compare-never-gives-32 : CompareNeverGives32
+compare-never-gives-32 = beginning.compare-never-gives-32

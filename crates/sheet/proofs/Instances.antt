@@ -32,9 +32,10 @@ use Rattle.envelope.specs.declared.reader.Reading.the-variants.{Accepted}
 use Rattle.envelope.specs.declared.rewriter.Rewriting.the-variants as again
 use Rattle.envelope.specs.declared.writer.Writing.the-variants.{Written, Refused}
 use Rattle.envelope.specs.declared.writer.WriteFault.the-variants.{NoRoom}
+use Rattle.golden.specs.Beginning.{isProperBeginning}
 use Rattle.golden.specs.Checking.{counted, checking}
 use Rattle.golden.specs.Checking as check
-use Rattle.golden.specs.Comparing.{isProperBeginning, comparing, afterComparing}
+use Rattle.golden.specs.Comparing.{comparing, afterComparing}
 use Rattle.golden.specs.Comparing as compare
 use Rattle.golden.specs.File.{badFile, recordAt, judgedAt}
 use Rattle.golden.specs.Finding.{finding}
@@ -249,7 +250,7 @@ pub entry-gave-22 : Gives (21 ∷ 22 ∷ 23 ∷ 24 ∷ []) (25 ∷ []) (plainly 
 unfolding entryAt badFile
 entry-gave-22 = entry-gives [] 0 (plainly 22) refl
 
-pub compare-gave-22 : Gives (21 ∷ 22 ∷ 23 ∷ 24 ∷ 32 ∷ []) (25 ∷ 31 ∷ []) (plainly 22)
+pub compare-gave-22 : Gives (21 ∷ 22 ∷ 23 ∷ 24 ∷ []) (25 ∷ 31 ∷ []) (plainly 22)
 unfolding comparing compare.answerToComparing badFile
 compare-gave-22 = compare-gives [] 0 M (plainly 22) refl
 
