@@ -12,6 +12,7 @@ type LibdeflateCrc = unsafe extern "C" fn(u32, *const u8, usize) -> u32;
 type Crc = unsafe extern "C" fn(*const u8, usize) -> u32;
 type Read = unsafe extern "C" fn(*const u8, usize, *mut u64) -> u64;
 type Check = unsafe extern "C" fn(*const u8, usize) -> u64;
+type Compare = unsafe extern "C" fn(*const u8, usize, usize, *const u8, usize, *mut u32, usize) -> u64;
 
 extern "C" {
     fn dlopen(name: *const c_char, mode: c_int) -> *mut c_void;
@@ -78,6 +79,7 @@ pub struct Before {
     crc: Crc,
     read: Read,
     check: Check,
+    compare: Compare,
 }
 
 impl Before {
@@ -92,6 +94,7 @@ impl Before {
                 crc: mem::transmute::<*mut c_void, Crc>(symbol(c"morlewen_crc")),
                 read: mem::transmute::<*mut c_void, Read>(symbol(c"morlewen_read")),
                 check: mem::transmute::<*mut c_void, Check>(symbol(c"morlewen_check")),
+                compare: mem::transmute::<*mut c_void, Compare>(symbol(c"morlewen_compare")),
             })
         }
     }
@@ -109,5 +112,11 @@ impl Before {
     pub fn check(self, file: &[u8]) -> Answer {
         // SAFETY: the pointer and the length are of one slice.
         unpack(unsafe { (self.check)(file.as_ptr(), file.len()) })
+    }
+
+    pub fn compare(self, file: &[u8], record: usize, radio: &[u8], places: &mut [u32]) -> Answer {
+        let (room, places) = (places.len(), places.as_mut_ptr());
+        // SAFETY: each pointer stands with the length of its own slice.
+        unpack(unsafe { (self.compare)(file.as_ptr(), file.len(), record, radio.as_ptr(), radio.len(), places, room) })
     }
 }

@@ -103,7 +103,7 @@ fn calls() {
     }
     let file = works::full_file();
     works::checking(&file, before).measure(&columns);
-    works::comparing(&file, &works::message(8, LONGEST_MESSAGE, u32::MAX)).measure(&columns);
+    works::comparing(&file, &works::message(8, LONGEST_MESSAGE, u32::MAX), before).measure(&columns);
 }
 
 /// A stream through the feed, in pieces; and the same messages read when each is whole already.

@@ -68,7 +68,7 @@ pub fn checking(file: &[u8], before: Option<Before>) -> Row<'_> {
     Row { name: format!("checking {MOST_RECORDS} records of {LONGEST_MESSAGE} bytes, CRC"), sides }
 }
 
-pub fn comparing<'a>(file: &'a [u8], radio: &'a [u8]) -> Row<'a> {
+pub fn comparing<'a>(file: &'a [u8], radio: &'a [u8], before: Option<Before>) -> Row<'a> {
     const ROOM: usize = 64;
     let compare_by_ours = || {
         let mut places = [0; ROOM];
@@ -76,7 +76,7 @@ pub fn comparing<'a>(file: &'a [u8], radio: &'a [u8]) -> Row<'a> {
         (answer, places)
     };
     assert_ne!(compare_by_ours().0.value, 0, "the radio's message does not differ");
-    let sides: Vec<(Side, Work)> = vec![
+    let mut sides: Vec<(Side, Work)> = vec![
         (Side::Ours, repeated(compare_by_ours)),
         (
             Side::Table,
@@ -93,6 +93,15 @@ pub fn comparing<'a>(file: &'a [u8], radio: &'a [u8]) -> Row<'a> {
             }),
         ),
     ];
+    if let Some(before) = before {
+        let compare_before = move || {
+            let mut places = [0; ROOM];
+            let answer = before.compare(black_box(file), 0, black_box(radio), &mut places);
+            (answer, places)
+        };
+        assert_eq!(compare_before(), compare_by_ours(), "it was compared differently before");
+        sides.push((Side::Before, repeated(compare_before)));
+    }
     Row { name: format!("comparing {} bytes, CRC", radio.len()), sides }
 }
 
