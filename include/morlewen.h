@@ -65,7 +65,7 @@ enum {
     MORLEWEN_RECORD_REFUSED = 25,        /* reading refuses the record's message; the slot `reading` says why */
     MORLEWEN_NOT_FOUND = 27,             /* every record is good, and none has that type and number */
     MORLEWEN_RADIO_REFUSED = 31,         /* reading refuses the radio's message; the slot `reading` says why */
-    /* 32 is not used: of two messages that reading accepts neither is the beginning of the other */
+    /* 32 is not used again: of two messages that reading accepts neither is a proper beginning of the other */
     MORLEWEN_MESSAGE_TOO_LONG = 33,      /* a message for a record is over 510 bytes */
     MORLEWEN_MESSAGE_REFUSED = 34,       /* reading refuses that message; the slot `reading` says why */
     MORLEWEN_WRONG_BUFFER = 35,          /* the buffer for a record is not 512 bytes */

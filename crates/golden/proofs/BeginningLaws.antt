@@ -18,7 +18,7 @@ use Rattle.envelope.specs.Heading.{announced}
 use Rattle.envelope.specs.Layout.{headerSize}
 use Rattle.envelope.specs.Reading.{reading}
 use Rattle.envelope.specs.Refusals.{plainly}
-use Rattle.golden.specs.Beginning.{isBeginning, isProperBeginning, NeverABeginning, comparingMessages, withRadioAnd32, withRecordAnd32, comparingWith32, Never32, CompareIsUnchanged, CompareNeverGives32}
+use Rattle.golden.specs.Beginning.{isBeginning, isProperBeginning, NeverABeginning, messagesAnd32, withRadioAnd32, withRecordAnd32, comparingWith32, Never32, CompareIsUnchanged, CompareNeverGives32}
 use Rattle.golden.specs.Comparing.{CompareOutcome, refused, withRadio, withRecord, comparing, answerToComparing}
 use Rattle.golden.specs.File.{badFile, notThere, recordAt, judgedAt}
 use Rattle.golden.specs.Record.{messageOf, Judged, good, bad}
@@ -77,7 +77,7 @@ never-a-beginning g r fg fr eg er = by (decLt (length g) (length r)) (decLt (len
 -- ---- so compare is what it was
 
 of-radio : (g r : List ℕ) (f : Fields) → reading g ≡ accepted f → (a : Answer) → reading r ≡ a → withRadio g r a ≡ withRadioAnd32 g r a
-unfolding comparingMessages
+unfolding messagesAnd32
 of-radio g r f e (envelope.refused x) q = refl
 of-radio g r f e (accepted x) q = rw (never-a-beginning g r f x e q)
 

@@ -20,6 +20,7 @@ isBeginning [] t = true
 isBeginning (x ∷ s) [] = false
 isBeginning (x ∷ s) (y ∷ t) = eqb x y && isBeginning s t
 
+-- one of the two is a proper beginning of the other
 unfoldable pub isProperBeginning : List ℕ → List ℕ → Bool
 isProperBeginning g r =
     ltb (length g) (length r) && isBeginning g r || ltb (length r) (length g) && isBeginning r g
@@ -29,12 +30,12 @@ NeverABeginning = (g r : List ℕ) (fg fr : Fields) → reading g ≡ accepted f
 
 -- ---- compare with 32, between 31 and the positions
 
-unfoldable pub comparingMessages : List ℕ → List ℕ → CompareOutcome
-comparingMessages g r = cond (isProperBeginning g r) (refused (plainly 32)) (positions (differing g r))
+unfoldable pub messagesAnd32 : List ℕ → List ℕ → CompareOutcome
+messagesAnd32 g r = cond (isProperBeginning g r) (refused (plainly 32)) (positions (differing g r))
 
 abbrev pub withRadioAnd32 : List ℕ → List ℕ → Answer → CompareOutcome
 withRadioAnd32 g r (read.refused x) = refused (passingOn 31 x)
-withRadioAnd32 g r (accepted fields) = comparingMessages g r
+withRadioAnd32 g r (accepted fields) = messagesAnd32 g r
 
 abbrev pub withRecordAnd32 : List ℕ → List ℕ → Judged → CompareOutcome
 withRecordAnd32 g r (bad x) = refused x
@@ -46,7 +47,7 @@ comparingWith32 f n radio =
     (cond (notThere f n) (refused (plainly 22))
     (withRecordAnd32 (messageOf (recordAt f n)) radio (judgedAt f n)))
 
--- for any file, record number and radio message it is not the outcome
+-- for any file, record number and radio message 32 is not its outcome
 abbrev pub Never32 : Type 0
 Never32 = (f : List ℕ) (n : ℕ) (radio : List ℕ) → comparingWith32 f n radio ≡ refused (plainly 32) → ⊥
 

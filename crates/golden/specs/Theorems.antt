@@ -1,4 +1,4 @@
--- What users of a golden file rely on. Each statement is a type here; the proofs stand in proofs/ (WalkLaws, CheckedLaws, FoundLaws, SameLaws, MadeLaws, BeginningLaws, FewLaws, KeptLaws, DemandLaws).
+-- What users of a golden file rely on. Each statement is a type here; the proofs stand in proofs/ (WalkLaws, CheckedLaws, FoundLaws, SameLaws, MadeLaws, FewLaws, KeptLaws, DemandLaws).
 -- `f` and `g` are files, `n` counts records.
 use Prim.Native.Nat.{ℕ, suc, _+_, _*_, _≤_, _<_}
 use mathlib.Core.Bool.{true, false}

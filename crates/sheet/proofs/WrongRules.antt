@@ -1,5 +1,5 @@
 -- For each number of document 01, an answer that passes over its rule, refuted by computing.
--- For 7 and 41 it stands in WrongAnswers, for 21, 22, 27 and 35 in WrongGolden.
+-- For 7 and 41 it stands in WrongAnswers, for 21, 22, 27 and 35 in WrongGolden; 32 is gone (K13).
 use mathlib.Core.List.{List, [], _∷_, _++_}
 use mathlib.Core.Path.{_≡_, refl, ap, sym, _∙_}
 use Prim.Native.Nat.{ℕ, _+_}
