@@ -1,15 +1,7 @@
 // Unwrap, wrap and acknowledge: what a frame or a capture holds, and frames made on standard output and nowhere else.
 // Rests on `frame`, which unwraps, measures, wraps and acknowledges.
-use crate::arguments::number_at;
-use crate::decimal::Decimal;
-use crate::files::MOST;
-use crate::printing::end_answer;
-use crate::printing::fill_in;
-use crate::printing::put;
-use crate::reading::read_message;
-use crate::refusals::frame_refused;
-use crate::refusals::not_wrapped;
-use crate::status::Status;
+use crate::reading::show_message;
+use envelope::Header;
 use envelope::Part;
 use frame::Acknowledgment;
 use frame::DataMessage;
@@ -22,38 +14,72 @@ use frame::layout::ACKNOWLEDGMENT_SIZE;
 use frame::layout::LEAST_SIZE;
 use frame::unwrap;
 use frame::wrap;
-
-const LARGEST_COMMID: u64 = 4_294_967_295;
+use wording::Manner;
+use wording::Status;
+use wording::files::MOST;
+use wording::refuse;
+use wording::refuse_to_make;
+use wording::rows;
+use wording::tell;
+use wording::telling::put;
 
 // The data message of the longest message that is taken.
 const FRAME: usize = LEAST_SIZE + MOST;
 
-// A frame that is alone in its file is told with its message.
-pub fn unwrap_file(file: &[u8]) -> Status {
+// Where a frame stands in its file: its number, or 0 where it is alone and goes without, and its first place.
+struct Spot {
+    frame: usize,
+    place: usize,
+}
+
+// A frame that is alone in its file is told with its message, in words.
+pub fn unwrap_file(manner: Manner, file: &[u8]) -> Status {
     if first(file) < file.len() {
-        return unwrap_capture(file);
+        return unwrap_capture(manner, file);
     }
-    match unwrap(file) {
-        Unwrapped::Data(data) => {
-            let message = data.message;
-            fill_in(
-                b"data message, COMMID #, frame of @\n",
-                &[data.commid as u64, file.len() as u64],
-            );
-            read_message(message.slice(file))
-        }
-        Unwrapped::Acknowledged(acknowledgment) => tell_acknowledgment(acknowledgment),
-        Unwrapped::Refused(refusal) => refuse(1, 0, refusal),
+    match manner {
+        Manner::Words => unwrap_frame(file),
+        _ => tell_frame(manner, Spot { frame: 1, place: 0 }, file),
     }
 }
 
+fn unwrap_frame(file: &[u8]) -> Status {
+    match unwrap(file) {
+        Unwrapped::Data(data) => show_data(data, file),
+        Unwrapped::Acknowledged(acknowledgment) => {
+            tell_acknowledgment(
+                Manner::Words,
+                Spot { frame: 0, place: 0 },
+                acknowledgment,
+                file,
+            )
+        }
+        Unwrapped::Refused(refusal) => {
+            refuse_frame(Manner::Words, Spot { frame: 1, place: 0 }, refusal)
+        }
+    }
+}
+
+fn show_data(data: DataMessage, file: &[u8]) -> Status {
+    let message = data.message;
+    let envelope = data.envelope;
+    tell(
+        Manner::Words,
+        Status::Unfinished,
+        rows::FRAME,
+        &[data.commid as u64, file.len() as u64],
+        file,
+    );
+    show_message(Manner::Words, envelope, message.slice(file))
+}
+
 // A line for each frame, up to the first that is refused.
-fn unwrap_capture(capture: &[u8]) -> Status {
+fn unwrap_capture(manner: Manner, capture: &[u8]) -> Status {
     let mut frame = 1;
     let mut place = 0;
     while place < capture.len() {
         let end = place + first(&capture[place..]);
-        let status = tell_frame(frame, place, &capture[place..end]);
+        let status = tell_frame(manner, Spot { frame, place }, &capture[place..end]);
         match status {
             Status::Done => {
                 frame += 1;
@@ -67,91 +93,109 @@ fn unwrap_capture(capture: &[u8]) -> Status {
     Status::Done
 }
 
-fn tell_frame(frame: usize, place: usize, bytes: &[u8]) -> Status {
+fn tell_frame(manner: Manner, spot: Spot, bytes: &[u8]) -> Status {
     match unwrap(bytes) {
-        Unwrapped::Data(data) => tell_data(frame, data),
-        Unwrapped::Acknowledged(acknowledgment) => {
-            fill_in(b"frame #: ", &[frame as u64]);
-            tell_acknowledgment(acknowledgment)
+        Unwrapped::Data(data) => {
+            let message = data.message;
+            let envelope = data.envelope;
+            tell_data(
+                manner,
+                spot,
+                data.commid,
+                envelope.header,
+                message.size,
+                bytes,
+            )
         }
-        Unwrapped::Refused(refusal) => refuse(frame, place, refusal),
+        Unwrapped::Acknowledged(acknowledgment) => {
+            tell_acknowledgment(manner, spot, acknowledgment, bytes)
+        }
+        Unwrapped::Refused(refusal) => refuse_frame(manner, spot, refusal),
     }
 }
 
-fn tell_data(frame: usize, data: DataMessage) -> Status {
-    let message = data.message;
-    let envelope = data.envelope;
-    let header = envelope.header;
-    fill_in(
-        b"frame #: data message, COMMID #, type #, number #, @",
+fn tell_data(
+    manner: Manner,
+    spot: Spot,
+    commid: u32,
+    header: Header,
+    length: usize,
+    bytes: &[u8],
+) -> Status {
+    tell(
+        manner,
+        Status::Done,
+        rows::DATA,
         &[
-            frame as u64,
-            data.commid as u64,
+            spot.frame as u64,
+            spot.place as u64,
+            commid as u64,
             header.message_type as u64,
             header.number as u64,
-            message.size as u64,
+            length as u64,
         ],
-    );
-    end_answer(Status::Done)
+        bytes,
+    )
 }
 
-fn tell_acknowledgment(acknowledgment: Acknowledgment) -> Status {
-    fill_in(
-        b"acknowledgment, COMMID #, of COMMID #",
+fn tell_acknowledgment(
+    manner: Manner,
+    spot: Spot,
+    acknowledgment: Acknowledgment,
+    bytes: &[u8],
+) -> Status {
+    tell(
+        manner,
+        Status::Done,
+        rows::ACKNOWLEDGMENT,
         &[
+            (spot.frame != 0) as u64,
+            spot.frame as u64,
+            spot.place as u64,
             acknowledgment.commid as u64,
             acknowledgment.acknowledged as u64,
         ],
-    );
-    end_answer(Status::Done)
+        bytes,
+    )
 }
 
-fn refuse(frame: usize, place: usize, refusal: Refusal) -> Status {
-    fill_in(b"frame #, at place #: ", &[frame as u64, place as u64]);
-    frame_refused(refusal);
-    end_answer(Status::Refused)
+fn refuse_frame(manner: Manner, spot: Spot, refusal: Refusal) -> Status {
+    let numbers = refusal.numbers();
+    refuse(
+        manner,
+        rows::BAD_FRAME,
+        &[
+            spot.frame as u64,
+            spot.place as u64,
+            numbers.number as u64,
+            numbers.reading as u64,
+        ],
+    )
 }
 
-pub fn wrap_message(message: &[u8]) -> Status {
+pub fn wrap_message(manner: Manner, commid: u32, message: &[u8]) -> Status {
     let mut buffer = [0u8; FRAME];
-    match number_at(2, b"COMMID", LARGEST_COMMID) {
-        Decimal::Number(commid) => {
-            let wrapped = wrap(message, commid_of(commid), &mut buffer);
-            put_frame(wrapped, &buffer)
-        }
-        Decimal::NotANumber => Status::Complained,
-    }
+    let wrapped = wrap(message, commid, &mut buffer);
+    put_frame(manner, wrapped, &buffer)
 }
 
-pub fn acknowledge_commid() -> Status {
-    match number_at(2, b"COMMID", LARGEST_COMMID) {
-        Decimal::Number(commid) => acknowledge_with(commid_of(commid)),
-        Decimal::NotANumber => Status::Complained,
-    }
-}
-
-fn acknowledge_with(commid: u32) -> Status {
+pub fn acknowledge_commid(manner: Manner, commid: u32, acknowledged: u32) -> Status {
     let mut buffer = [0u8; ACKNOWLEDGMENT_SIZE];
-    match number_at(3, b"ACKNOWLEDGED", LARGEST_COMMID) {
-        Decimal::Number(acknowledged) => {
-            let wrapped = acknowledge(commid, commid_of(acknowledged), &mut buffer);
-            put_frame(wrapped, &buffer)
-        }
-        Decimal::NotANumber => Status::Complained,
-    }
+    let wrapped = acknowledge(commid, acknowledged, &mut buffer);
+    put_frame(manner, wrapped, &buffer)
 }
 
-// The remainder loses nothing: no COMMID is above the largest.
-fn commid_of(n: u64) -> u32 {
-    (n % (LARGEST_COMMID + 1)) as u32
-}
-
-fn put_frame(wrapped: Wrapped, buffer: &[u8]) -> Status {
+fn put_frame(manner: Manner, wrapped: Wrapped, buffer: &[u8]) -> Status {
     match wrapped {
         Wrapped::Written(size) => {
             let whole = Part { place: 0, size };
             put(whole.slice(buffer), Status::Done)
         }
-        Wrapped::Refused(refusal) => not_wrapped(refusal),
+        Wrapped::Refused(refusal) => not_wrapped(manner, refusal),
     }
+}
+
+fn not_wrapped(manner: Manner, refusal: Refusal) -> Status {
+    let numbers = refusal.numbers();
+    refuse_to_make(manner, &[numbers.number as u64, numbers.reading as u64])
 }

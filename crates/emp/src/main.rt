@@ -1,103 +1,189 @@
-// The operator's tool: what a golden file, a message or any other file holds, in plain words. Files are only read.
-// Rests on the crates `sum`, `envelope`, `judge`, `golden`, `feed` and `frame`, which decide every answer; here it is only told.
-mod arguments;
+// The operator's tool: what a golden file, a message, a frame or any other file holds, in words or plainly. Files are only read.
+// Rests on the libraries, which decide every answer, and on `wording` and `console`, by which it is told.
 mod arrival;
-mod checking;
 mod comparing;
-mod decimal;
-mod files;
-mod finding;
 mod framing;
-mod help;
+mod golden_files;
 mod judging;
-mod layout;
-mod line;
-mod listing;
 mod making;
-mod marking;
-mod printing;
 mod reading;
-mod refusals;
-mod status;
-mod summing;
 mod watching;
-mod words;
 
-use crate::arguments::Command;
-use crate::arguments::asked;
-use crate::files::Content;
-use crate::files::MOST;
-use crate::files::ROOM;
-use crate::files::take;
-use crate::status::Status;
-use crate::status::tell;
+use console::table::piece;
+use console::table::row;
 use envelope::Part;
+use golden::Name;
+use wording::Manner;
+use wording::Status;
+use wording::arguments::Given;
+use wording::arguments::NAMES;
+use wording::arguments::given_by;
+use wording::commands;
+use wording::commands::Asked;
+use wording::commands::Command;
+use wording::commands::command_of;
+use wording::commands::manner_of_help;
+use wording::commands::row_of;
+use wording::commands::unknown_option;
+use wording::files::File;
+use wording::files::MOST;
+use wording::files::ROOM;
+use wording::files::file_at;
+use wording::helping;
+use wording::rows;
+use wording::status;
+use wording::telling::complain;
 
+// One row for each command, in the order of the constants of `commands`: its form, what it does, and what it tells plainly.
 fn main() {
-    tell(run());
+    status::tell(run(
+        b"list GOLDEN\tevery record: its type, number and length, or its refusal\tgood RECORD TYPE NUMBER LENGTH, or refused RECORD REFUSAL READING
+check GOLDEN\tthe count of records, or the first bad one\tgood COUNT, or refused RECORD REFUSAL READING
+find GOLDEN TYPE NUMBER\tthe first record of that type and number, and how many were opened\tfound RECORD OPENED, or refused RECORD OPENED REFUSAL READING
+compare GOLDEN RECORD RADIO\ta record beside the radio's message: same, or where the two differ\tsame LENGTH, or different TOTAL and then place PLACE GOLDEN RADIO FIELD for each place below 512, or refused REFUSAL READING
+read MESSAGE\tevery field of a message, or its refusal\taccepted LENGTH TYPE VERSION FLAGS DATA-LENGTH NUMBER TIME VARIABLE-SIZE TTL QOS SOURCE DESTINATION BODY-PLACE INTEGRITY KIND, or refused REFUSAL READING
+judge MESSAGE\tevery rule of reading by itself: kept, broken or not judged, with the numbers found; then what read says\trule RULE VERDICT for each rule, kept, broken or unjudged, and then accepted LENGTH, or refused REFUSAL READING
+sum FILE\tthe CRC of all bytes of a file\tsum CRC LENGTH
+make MESSAGE\tthe record of 512 bytes that holds a message, to standard output\tthe record, or on standard error refused REFUSAL READING
+unwrap FRAME\ta frame: what it is, its COMMIDs, and its message as read tells it; of a capture, which is frames end to end, a line for each, up to the first refused\tdata FRAME PLACE COMMID TYPE NUMBER LENGTH, acknowledgment FRAME PLACE COMMID ACKNOWLEDGED, or refused FRAME PLACE REFUSAL READING
+wrap COMMID MESSAGE\tthe data message, with that COMMID, that carries a message, to standard output\tthe frame, or on standard error refused REFUSAL READING
+acknowledge COMMID ACKNOWLEDGED\tthe acknowledgment, with a COMMID of its own, of the COMMID ACKNOWLEDGED, to standard output\tthe frame
+watch [GOLDEN]\tevery message of standard input the moment its last byte is in, and the record of its type and number: same, or in how many places the two differ\tmessage MESSAGE TYPE NUMBER LENGTH DISTANCE RECORD DIFFERING, or refused MESSAGE BYTES REFUSAL READING; of a bad GOLDEN what check tells
+help [COMMAND]\tthis, or what a command does\tthe form of each command
+",
+        b"--plain\n-q\n--help\n-h\n--version\n--\n",
+    ));
 }
 
-fn run() -> Status {
-    let command = asked();
-    match command {
-        Command::None => Status::Complained,
-        Command::Help => help::help(),
-        Command::Watch => watching::watch_alone(),
-        Command::Acknowledge => framing::acknowledge_commid(),
+fn run(commands: &[u8], options: &[u8]) -> Status {
+    let mut names = [0usize; NAMES];
+    let given = given_by(options, &mut names);
+    if given.too_long {
+        return complain(rows::LONG_WORD, options, options);
+    }
+    if given.unknown != 0 {
+        return unknown_option(options, given.unknown);
+    }
+    if given.version {
+        return helping::version(manner_of_help(given));
+    }
+    if given.names == 0 {
+        return without_names(commands, given);
+    }
+    let found = row_of(commands, names[0]);
+    run_row(commands, found, given, &names)
+}
+
+fn without_names(commands: &[u8], given: Given) -> Status {
+    if given.help {
+        return helping::help(manner_of_help(given), commands);
+    }
+    complain(rows::NO_COMMAND, commands, commands)
+}
+
+fn run_row(commands: &[u8], found: usize, given: Given, names: &[usize; NAMES]) -> Status {
+    let line = row(commands, found);
+    if line.len() == 0 {
+        return Status::Complained;
+    }
+    if given.help {
+        return helping::help_for(manner_of_help(given), Status::Done, line, true);
+    }
+    match command_of(piece(line, commands::TAB, 0), found, given, names) {
+        Asked::Command(command) => answer(command, commands),
+        Asked::Wrong => Status::Complained,
+    }
+}
+
+fn answer(command: Command, commands: &[u8]) -> Status {
+    let manner = command.manner;
+    let row = command.row;
+    match row {
+        commands::HELP => help_on(manner, commands, command.file),
+        commands::ACKNOWLEDGE => framing::acknowledge_commid(
+            manner,
+            narrow(command.number),
+            narrow(command.further),
+        ),
         _ => on_file(command),
     }
 }
 
-// Any other command names a file.
-fn on_file(command: Command) -> Status {
-    let mut buffer = [0u8; ROOM];
-    match take(file_word(command), most_for(command), &mut buffer) {
-        Content::Size(size) => {
-            let whole = Part { place: 0, size };
-            answer(command, whole.slice(&buffer))
-        }
-        Content::Untaken => Status::Complained,
+fn help_on(manner: Manner, commands: &[u8], argument: usize) -> Status {
+    if argument == 0 {
+        return helping::help(manner, commands);
     }
+    let line = row(commands, row_of(commands, argument));
+    if line.len() == 0 {
+        return Status::Complained;
+    }
+    helping::help_for(manner, Status::Done, line, true)
 }
 
-// The first word after the command, but for the COMMID before a message.
-fn file_word(command: Command) -> usize {
-    match command {
-        Command::Wrap => 3,
-        _ => 2,
+// Any other command names a file, but for watch, which may.
+fn on_file(command: Command) -> Status {
+    let manner = command.manner;
+    if command.file == 0 {
+        return watching::watch_alone(manner);
+    }
+    let mut buffer = [0u8; ROOM];
+    match file_at(command.file, most_for(command.row), &mut buffer) {
+        File::Size(size) => {
+            let whole = Part { place: 0, size };
+            answer_on(command, whole.slice(&buffer))
+        }
+        File::Untaken => Status::Complained,
     }
 }
 
 // A golden file that is too long is left to the library, which refuses it by its number.
-fn most_for(command: Command) -> usize {
-    match command {
-        Command::Read => MOST,
-        Command::Judge => MOST,
-        Command::Sum => MOST,
-        Command::Make => MOST,
-        Command::Unwrap => MOST,
-        Command::Wrap => MOST,
-        _ => ROOM,
+fn most_for(row: usize) -> usize {
+    match row {
+        commands::LIST | commands::CHECK | commands::FIND | commands::COMPARE | commands::WATCH => {
+            ROOM
+        }
+        _ => MOST,
     }
 }
 
-// The last four take no file, and are answered before.
-fn answer(command: Command, file: &[u8]) -> Status {
-    match command {
-        Command::List => listing::list_file(file),
-        Command::Check => checking::check_file(file),
-        Command::Find => finding::find_record(file),
-        Command::Compare => comparing::compare_record(file),
-        Command::Read => reading::read_message(file),
-        Command::Judge => judging::judge_message(file),
-        Command::Sum => summing::sum_file(file),
-        Command::Make => making::make_record(file),
-        Command::Unwrap => framing::unwrap_file(file),
-        Command::Wrap => framing::wrap_message(file),
-        Command::WatchBeside => watching::watch_beside(file),
-        Command::Watch => Status::Complained,
-        Command::Acknowledge => Status::Complained,
-        Command::Help => Status::Complained,
-        Command::None => Status::Complained,
+fn answer_on(command: Command, file: &[u8]) -> Status {
+    let manner = command.manner;
+    let row = command.row;
+    match row {
+        commands::LIST => golden_files::list_file(manner, file),
+        commands::CHECK => golden_files::check_file(manner, file),
+        commands::FIND => golden_files::find_record(manner, file, name_of(command)),
+        commands::COMPARE => compare_with(command, file),
+        commands::READ => reading::read_message(manner, file),
+        commands::JUDGE => judging::judge_message(manner, file),
+        commands::SUM => making::sum_file(manner, file),
+        commands::MAKE => making::make_record(manner, file),
+        commands::UNWRAP => framing::unwrap_file(manner, file),
+        commands::WRAP => framing::wrap_message(manner, narrow(command.number), file),
+        _ => watching::watch_beside(manner, file),
+    }
+}
+
+fn name_of(command: Command) -> Name {
+    Name {
+        message_type: (command.number % 65_536) as u16,
+        number: narrow(command.further),
+    }
+}
+
+// The remainder loses nothing: the table of numbers has none larger.
+fn narrow(n: u64) -> u32 {
+    (n % 4_294_967_296) as u32
+}
+
+fn compare_with(command: Command, file: &[u8]) -> Status {
+    let manner = command.manner;
+    let mut buffer = [0u8; ROOM];
+    match file_at(command.radio, MOST, &mut buffer) {
+        File::Size(size) => {
+            let whole = Part { place: 0, size };
+            comparing::compare_record(manner, file, command.number as usize, whole.slice(&buffer))
+        }
+        File::Untaken => Status::Complained,
     }
 }

@@ -1,234 +1,172 @@
 // Read: every field of a message by name, or the refusal.
-// Rests on `envelope`, which reads the message and splits the QoS.
-use crate::printing::bytes;
-use crate::printing::counted;
-use crate::printing::end_answer;
-use crate::printing::escaped;
-use crate::printing::hex_byte;
-use crate::printing::hex_number;
-use crate::printing::text;
-use crate::printing::text_number;
-use crate::refusals::reading_refused;
-use crate::status::Status;
+// Rests on `envelope`, which reads the message, tells the flags and splits the QoS.
+ghost use Prim.Native.Nat.{_≤_};
 use envelope::Addressing;
 use envelope::Envelope;
 use envelope::Header;
 use envelope::Integrity;
 use envelope::Part;
 use envelope::Reading;
+use envelope::Refusal;
 use envelope::flags::is_compressed;
 use envelope::flags::is_encrypted;
+use envelope::flags::kind;
 use envelope::flags::time_is_absolute;
-use envelope::qos::Qos;
 use envelope::qos::split;
 use envelope::read;
-use libc::STDOUT_FILENO;
+use wording::Manner;
+use wording::Status;
+use wording::refuse;
+use wording::rows;
+use wording::tell;
 
-// The rows of a body that are shown, and the bytes in each.
-const ROWS: u8 = 16;
+// The bytes of a body that are shown.
+const SHOWN: usize = 256;
 
-const ROW: u8 = 16;
-
-const SHOWN: usize = ROWS as usize * ROW as usize;
-
-pub fn read_message(message: &[u8]) -> Status {
+pub fn read_message(manner: Manner, message: &[u8]) -> Status {
     match read(message) {
-        Reading::Accepted(accepted) => {
-            show_accepted(message.len());
-            show_fields(accepted, message);
-            end_answer(Status::Done)
-        }
-        Reading::Refused(refusal) => {
-            reading_refused(refusal);
-            end_answer(Status::Refused)
-        }
+        Reading::Accepted(accepted) => show_message(manner, accepted, message),
+        Reading::Refused(refusal) => refuse_reading(manner, refusal),
     }
 }
 
-pub fn show_accepted(size: usize) {
-    text(b"accepted, ");
-    bytes(size);
+pub fn refuse_reading(manner: Manner, refusal: Refusal) -> Status {
+    let fault = refusal.fault;
+    refuse(manner, rows::REFUSED, &[fault.number() as u64, 0])
 }
 
-fn show_fields(accepted: Envelope, message: &[u8]) {
+// What reading handed out of a message; plainly, one line.
+pub fn show_message(manner: Manner, accepted: Envelope, message: &[u8]) -> Status {
+    let header = accepted.header;
     let body = accepted.body;
     let addressing = accepted.addressing;
     let integrity = accepted.integrity;
-    show_front(accepted.header, integrity);
-    show_numbers(accepted.header, body.size);
-    show_addressing(addressing, message);
-    show_body(body, message);
-    show_integrity(integrity);
+    show_header(manner, header, body.size, message);
+    show_addressing(manner, addressing, body.place, message);
+    show_body(manner, body, header.flags, held_in(integrity), message)
 }
 
-fn show_front(header: Header, integrity: Integrity) {
-    text_number(b"\nheader version        ", Envelope::HEADER_VERSION as u64);
-    text_number(b"\nmessage type          ", header.message_type as u64);
-    text_number(b"\nmessage version       ", header.version as u64);
-    show_flags(header.flags, integrity);
+fn show_header(manner: Manner, header: Header, data_length: usize, message: &[u8]) {
+    let flags = header.flags;
+    tell(
+        manner,
+        Status::Unfinished,
+        rows::HEADER,
+        &[
+            message.len() as u64,
+            Envelope::HEADER_VERSION as u64,
+            header.message_type as u64,
+            header.version as u64,
+            flags as u64,
+            time_is_absolute(flags) as u64,
+            is_encrypted(flags) as u64,
+            is_compressed(flags) as u64,
+            kind(flags) as u64,
+            data_length as u64,
+            header.number as u64,
+            header.time as u64,
+        ],
+        message,
+    );
 }
 
-// The byte, and its parts from the lowest bit up; the kind as reading has it.
-fn show_flags(flags: u8, integrity: Integrity) {
-    text(b"\nflags                 ");
-    hex_byte(flags);
-    text(b" (hex)");
-    show_time_format(time_is_absolute(flags));
-    yes_or_no(b"\n  encrypted           ", is_encrypted(flags));
-    yes_or_no(b"\n  compressed          ", is_compressed(flags));
-    show_kind(integrity);
-}
-
-fn show_time_format(absolute: bool) {
-    text(b"\n  time format         ");
-    if absolute {
-        text(b"absolute");
-        return;
-    }
-    text(b"relative");
-}
-
-fn yes_or_no(name: &[u8], so: bool) {
-    text(name);
-    if so {
-        text(b"yes");
-        return;
-    }
-    text(b"no");
-}
-
-fn show_kind(integrity: Integrity) {
-    text(b"\n  integrity kind      ");
-    match integrity {
-        Integrity::None => text(b"0, none"),
-        Integrity::Crc(_) => text(b"1, CRC"),
-        Integrity::Application(_) => text(b"2, application-specific"),
-    }
-}
-
-fn show_numbers(header: Header, data_length: usize) {
-    text_number(b"\ndata length           ", data_length as u64);
-    text_number(b"\nmessage number        ", header.number as u64);
-    text_number(b"\nmessage time          ", header.time as u64);
-}
-
-fn show_addressing(addressing: Addressing, message: &[u8]) {
+fn show_addressing(manner: Manner, addressing: Addressing, body_place: usize, message: &[u8]) {
     match addressing {
-        Addressing::Absent => text(
-            b"\nvariable header size  0, so there is no time to live, QoS, source or destination",
-        ),
+        Addressing::Absent => {
+            tell(manner, Status::Unfinished, rows::UNROUTED, &[0], message);
+        }
         Addressing::Present {
             ttl,
             qos,
             source,
             destination,
         } => {
-            show_variable_size(message);
-            show_ttl(ttl);
-            show_qos(qos);
-            show_end(b"\nsource                ", source.slice(message));
-            show_end(b"\ndestination           ", destination.slice(message));
+            show_routing(manner, variable_size(body_place), ttl, qos, message);
+            show_ends(manner, source, destination, message);
         }
     }
 }
 
-fn show_variable_size(message: &[u8]) {
-    if Envelope::VARIABLE_SIZE_PLACE < message.len() {
-        show_size(message[Envelope::VARIABLE_SIZE_PLACE]);
+// The variable header ends where the body begins.
+fn variable_size(body_place: usize) -> usize {
+    if body_place < Envelope::HEADER_SIZE {
+        return 0;
     }
+    body_place - Envelope::HEADER_SIZE
 }
 
-fn show_size(size: u8) {
-    text_number(b"\nvariable header size  ", size as u64);
-}
-
-fn show_ttl(ttl: u16) {
-    text(b"\ntime to live          ");
-    counted(ttl as usize, b" second");
-}
-
-fn show_qos(qos: u16) {
+fn show_routing(manner: Manner, variable: usize, ttl: u16, qos: u16, message: &[u8]) {
     let parts = split(qos);
-    text_number(b"\nQoS                   ", qos as u64);
-    text_number(b"\n  service request     ", parts.service_request as u64);
-    text_number(b"\n  special handling    ", parts.special_handling as u64);
-    show_qos_end(parts);
+    tell(
+        manner,
+        Status::Unfinished,
+        rows::ROUTED,
+        &[
+            variable as u64,
+            ttl as u64,
+            qos as u64,
+            parts.service_request as u64,
+            parts.special_handling as u64,
+            parts.network_preference as u64,
+            parts.priority as u64,
+            parts.class as u64,
+        ],
+        message,
+    );
 }
 
-fn show_qos_end(parts: Qos) {
-    text_number(b"\n  network preference  ", parts.network_preference as u64);
-    text_number(b"\n  priority            ", parts.priority as u64);
-    text_number(b"\n  class               ", parts.class as u64);
+fn show_ends(manner: Manner, source: Part, destination: Part, message: &[u8]) {
+    tell(
+        manner,
+        Status::Unfinished,
+        rows::ENDS,
+        &[
+            (source.size != 0) as u64,
+            source.place as u64,
+            source.size as u64,
+            (destination.size != 0) as u64,
+            destination.place as u64,
+            destination.size as u64,
+        ],
+        message,
+    );
 }
 
-fn show_end(name: &[u8], address: &[u8]) {
-    text(name);
-    if address.len() == 0 {
-        text(b"(empty)");
-        return;
+fn show_body(manner: Manner, body: Part, flags: u8, held: u32, message: &[u8]) -> Status {
+    let place = body.place as u64;
+    let left = left_of(body.size);
+    tell(
+        manner,
+        Status::Done,
+        rows::BODY,
+        &[
+            body.size as u64,
+            place,
+            place,
+            (body.size - left) as u64,
+            (left != 0) as u64,
+            left as u64,
+            held as u64,
+            kind(flags) as u64,
+        ],
+        message,
+    )
+}
+
+// The bytes of a body that are not shown.
+fn left_of(size: usize) -> usize
+    ensures { λ r. ⌜ r ≤ size ⌝ }
+{
+    if SHOWN < size {
+        return size - SHOWN;
     }
-    escaped(STDOUT_FILENO, address);
+    0
 }
 
-fn show_body(body: Part, message: &[u8]) {
-    text(b"\nbody                  ");
-    bytes(body.size);
-    text_number(b" from place ", body.place as u64);
-    show_rows(body.slice(message));
-    if SHOWN < body.size {
-        more_bytes(body.size - SHOWN);
+fn held_in(integrity: Integrity) -> u32 {
+    match integrity {
+        Integrity::None => 0,
+        Integrity::Crc(sum) => sum,
+        Integrity::Application(number) => number,
     }
-}
-
-fn more_bytes(left: usize) {
-    text(b"\n  ... ");
-    counted(left, b" more byte");
-}
-
-fn show_rows(bytes: &[u8]) {
-    let mut row = 0u8;
-    while row < ROWS {
-        show_row(bytes, row);
-        row += 1;
-    }
-}
-
-fn show_row(bytes: &[u8], row: u8) {
-    if place_at(row, 0) < bytes.len() {
-        text(b"\n ");
-        show_bytes(bytes, row);
-    }
-}
-
-fn show_bytes(bytes: &[u8], row: u8) {
-    let mut column = 0u8;
-    while column < ROW {
-        show_byte(bytes, place_at(row, column));
-        column += 1;
-    }
-}
-
-fn show_byte(bytes: &[u8], place: usize) {
-    if place < bytes.len() {
-        text(b" ");
-        hex_byte(bytes[place]);
-    }
-}
-
-fn place_at(row: u8, column: u8) -> usize {
-    row as usize * ROW as usize + column as usize
-}
-
-fn show_integrity(held: Integrity) {
-    text(b"\nintegrity             ");
-    match held {
-        Integrity::None => show_word(0, b" (hex), none"),
-        Integrity::Crc(sum) => show_word(sum, b" (hex), the CRC of all bytes before it"),
-        Integrity::Application(word) => show_word(word, b" (hex), the application's own number"),
-    }
-}
-
-fn show_word(word: u32, meaning: &[u8]) {
-    hex_number(word);
-    text(meaning);
 }

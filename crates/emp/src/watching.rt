@@ -4,13 +4,7 @@ ghost use Prim.Native.Nat.{_<_};
 ghost use lib.ListN.{length};
 ghost use Rattle.emp.specs.Watching.{Onward};
 use crate::arrival::tell_message;
-use crate::checking::check_file;
-use crate::printing::bytes;
-use crate::printing::end_answer;
-use crate::printing::text;
-use crate::printing::text_number;
-use crate::refusals::stream_refused;
-use crate::status::Status;
+use crate::golden_files::check_file;
 use feed::Feed;
 use feed::Found;
 use feed::Refusal;
@@ -21,6 +15,10 @@ use feed::held;
 use golden::Checking;
 use golden::check;
 use libc::STDIN_FILENO;
+use wording::Manner;
+use wording::Status;
+use wording::refuse;
+use wording::rows;
 
 // How far a stream is: the feed without the bytes that it keeps, and what went by.
 pub struct Stream {
@@ -41,20 +39,20 @@ enum Course {
     Ended(Status),
 }
 
-pub fn watch_alone() -> Status {
-    watch(b"", false)
+pub fn watch_alone(manner: Manner) -> Status {
+    watch(manner, b"", false)
 }
 
 // A bad golden file is told before any byte of the stream is read.
-pub fn watch_beside(golden: &[u8]) -> Status {
+pub fn watch_beside(manner: Manner, golden: &[u8]) -> Status {
     match check(golden) {
-        Checking::Count(_) => watch(golden, true),
-        _ => check_file(golden),
+        Checking::Count(_) => watch(manner, golden, true),
+        _ => check_file(manner, golden),
     }
 }
 
 // A proved loop has to end, so it counts its reads down, from a number that no stream uses up; there it would end as a stream does.
-fn watch(golden: &[u8], beside: bool) -> Status {
+fn watch(manner: Manner, golden: &[u8], beside: bool) -> Status {
     let mut kept = [0u8; Feed::ROOM];
     let mut stream = Stream {
         count: 0,
@@ -66,7 +64,7 @@ fn watch(golden: &[u8], beside: bool) -> Status {
     };
     let mut reads = u64::MAX;
     while reads > 0 {
-        match read_piece(&mut kept, stream, golden) {
+        match read_piece(manner, &mut kept, stream, golden) {
             Course::Going {
                 stream: later,
                 used: _,
@@ -79,11 +77,16 @@ fn watch(golden: &[u8], beside: bool) -> Status {
         }
         reads -= 1;
     }
-    end(stream)
+    end(manner, stream)
 }
 
 // One read, which waits for a byte and no longer: what has come is shown before more is asked for.
-fn read_piece(kept: &mut [u8; Feed::ROOM], stream: Stream, golden: &[u8]) -> Course {
+fn read_piece(
+    manner: Manner,
+    kept: &mut [u8; Feed::ROOM],
+    stream: Stream,
+    golden: &[u8],
+) -> Course {
     let mut piece = io::buffer();
     let got = libc::read(STDIN_FILENO, &mut piece);
     if got < 0 {
@@ -91,17 +94,23 @@ fn read_piece(kept: &mut [u8; Feed::ROOM], stream: Stream, golden: &[u8]) -> Cou
         return Course::Ended(Status::Complained);
     }
     if got == 0 {
-        return Course::Ended(end(stream));
+        return Course::Ended(end(manner, stream));
     }
     let size = io::count(got, &piece);
-    take_piece(kept, stream, &piece[..size], golden)
+    take_piece(manner, kept, stream, &piece[..size], golden)
 }
 
-fn take_piece(kept: &mut [u8; Feed::ROOM], before: Stream, piece: &[u8], golden: &[u8]) -> Course {
+fn take_piece(
+    manner: Manner,
+    kept: &mut [u8; Feed::ROOM],
+    before: Stream,
+    piece: &[u8],
+    golden: &[u8],
+) -> Course {
     let mut stream = before;
     let mut from = 0;
     while from < piece.len() {
-        match take_some(kept, stream, &piece[from..], golden) {
+        match take_some(manner, kept, stream, &piece[from..], golden) {
             Course::Going {
                 stream: later,
                 used,
@@ -118,7 +127,13 @@ fn take_piece(kept: &mut [u8; Feed::ROOM], before: Stream, piece: &[u8], golden:
 }
 
 // One call of the feed, and what it found told. It goes on by a byte at least, and by no more than the piece has.
-fn take_some(kept: &mut [u8; Feed::ROOM], before: Stream, piece: &[u8], golden: &[u8]) -> Course
+fn take_some(
+    manner: Manner,
+    kept: &mut [u8; Feed::ROOM],
+    before: Stream,
+    piece: &[u8],
+    golden: &[u8],
+) -> Course
     requires { ⌜ 0 < length (now piece) ⌝ }
     ensures { λ r. ⌜ Onward (length (now (piece .entry))) r ⌝ }
 {
@@ -133,7 +148,7 @@ fn take_some(kept: &mut [u8; Feed::ROOM], before: Stream, piece: &[u8], golden: 
         Found::Message { size: _, envelope } => {
             let header = envelope.header;
             let message = held(kept, step.count, stands);
-            match tell_message(stream, header, message, golden) {
+            match tell_message(manner, stream, header, message, golden) {
                 Status::Done => Course::Going {
                     stream: passed(stream, header.number),
                     used,
@@ -141,7 +156,7 @@ fn take_some(kept: &mut [u8; Feed::ROOM], before: Stream, piece: &[u8], golden: 
                 _ => Course::Ended(Status::Complained),
             }
         }
-        Found::Refused(refusal) => Course::Ended(refuse(stream, refusal)),
+        Found::Refused(refusal) => Course::Ended(refuse_message(manner, stream, refusal)),
     }
 }
 
@@ -170,24 +185,28 @@ fn passed(before: Stream, number: u32) -> Stream {
     }
 }
 
-fn end(stream: Stream) -> Status {
+fn end(manner: Manner, stream: Stream) -> Status {
     let standing = stream.standing;
     let step = close(stream.count, standing);
     let found = step.found;
     match found {
-        Found::Refused(refusal) => refuse(stream, refusal),
+        Found::Refused(refusal) => refuse_message(manner, stream, refusal),
         _ => Status::Done,
     }
 }
 
 // The message that is on its way is the one refused, by the last of the bytes so far.
-fn refuse(stream: Stream, refusal: Refusal) -> Status {
-    text_number(b"message ", more(stream.messages, 1));
-    text(b", after ");
-    bytes(stream.bytes as usize);
-    text(b": ");
-    stream_refused(refusal);
-    end_answer(Status::Refused)
+fn refuse_message(manner: Manner, stream: Stream, refusal: Refusal) -> Status {
+    refuse(
+        manner,
+        rows::BAD_MESSAGE,
+        &[
+            more(stream.messages, 1),
+            stream.bytes,
+            refusal.number() as u64,
+            0,
+        ],
+    )
 }
 
 // A sum that stays at the largest number where it would go past it.

@@ -8,8 +8,10 @@ use denote.Ref.{RefT, now}
 use lib.Dec.{eqb}
 use lib.ListN.{length}
 use Rattle.envelope.proofs.OnlyLaws.{only-by-telling, untoldRefusal, untold-refusal, only-numbers}
+use Rattle.envelope.specs.Fields.{Span}
 use Rattle.envelope.specs.Promise.{Only₁, Only₂}
 use Rattle.envelope.specs.Refusals.{Refused, plainly, passingOn}
+use Rattle.envelope.specs.Told.{toldPart}
 use Rattle.envelope.specs.declared.reader.Refusal as envelope
 use Rattle.golden.specs.Checking as check
 use Rattle.golden.specs.Comparing as compare
@@ -115,6 +117,10 @@ only-reached f n = only-by-telling step.toldReached untoldReached untold-reached
 pub only-steps : (f : List ℕ) (n : ℕ) → Only₁ (step.Steps f n)
 only-steps f n a b p q = λ i.
     record { answer = only-reached f n (a .answer) (b .answer) (p .0) (q .0) i; next = (p .1 ∙ sym (q .1)) i }
+
+pub only-stores : (f : List ℕ) (n : ℕ) → Only₁ (step.Stores f n)
+only-stores f n =
+    only-by-telling toldPart (λ (p : Span). record { place = p .place; size = p .size }) (λ a. refl) (step.storedMessage f n)
 
 -- ---- listing
 

@@ -7,6 +7,7 @@ use mathlib.Core.Path.{_≡_}
 use Rattle.envelope.specs.Fields.{Span}
 use Rattle.envelope.specs.Refusals.{Refused, plainly}
 use Rattle.envelope.specs.Told.{toldPart}
+use Rattle.envelope.specs.declared.fields.Part.{Part}
 use Rattle.golden.specs.File.{badFile, notThere, recordAt, judgedAt}
 use Rattle.golden.specs.Record.{recordSize, headSize, storedLength, Judged, good, bad}
 use Rattle.golden.specs.Refusal.{toldGoldenRefusal}
@@ -44,3 +45,15 @@ toldReached End = end
 -- what `step` promises
 abbrev pub Steps : List ℕ → ℕ → Stepping → Type 0
 Steps f n r = (toldReached (r .answer) ≡ stepAt f n) × (r .next ≡ nextAfter f n)
+
+-- ---- the message of a record by its stored length alone, good or not
+
+abbrev pub nowhere : Span
+nowhere = record { place = 0; size = 0 }
+
+unfoldable pub storedMessage : List ℕ → ℕ → Span
+storedMessage f n = cond (badFile f) nowhere (cond (notThere f n) nowhere (messagePart f n))
+
+-- what `stored_message` promises
+abbrev pub Stores : List ℕ → ℕ → Part → Type 0
+Stores f n r = toldPart r ≡ storedMessage f n

@@ -1,4 +1,4 @@
--- What users of a golden file rely on. Each statement is a type here; the proofs stand in proofs/ (WalkLaws, CheckedLaws, FoundLaws, SameLaws, MadeLaws, FewLaws, KeptLaws, DemandLaws).
+-- What users of a golden file rely on. Each statement is a type here; the proofs stand in proofs/ (WalkLaws, SteppingLaws, CheckedLaws, FoundLaws, SameLaws, MadeLaws, FewLaws, KeptLaws, DemandLaws).
 -- `f` and `g` are files, `n` counts records.
 use Prim.Native.Nat.{ℕ, suc, _+_, _*_, _≤_, _<_}
 use mathlib.Core.Bool.{true, false}
@@ -9,7 +9,7 @@ use denote.Ref.{RefT, now}
 use lib.ListN.{length}
 use Rattle.envelope.specs.AnyWindow.{TwoAndTwoAt, OneDifference}
 use Rattle.envelope.specs.Demand3.{DeclaresCrc, Window, SameOutside}
-use Rattle.envelope.specs.Fields.{Fields, Refusal, accepted}
+use Rattle.envelope.specs.Fields.{Span, Fields, Refusal, accepted}
 use Rattle.envelope.specs.Layout.{largestMessage}
 use Rattle.envelope.specs.Numbers.{byteAt}
 use Rattle.envelope.specs.Promise.{Bytes}
@@ -26,7 +26,7 @@ use Rattle.golden.specs.Listing.{CountAnswer, counting}
 use Rattle.golden.specs.Listing as listing
 use Rattle.golden.specs.Making.{made, refused, toldMaking, Makes}
 use Rattle.golden.specs.Record.{recordSize, headSize, messageRoom, messageOf, good, bad}
-use Rattle.golden.specs.Stepping.{StepAnswer, end, stepOf, stepAt, nextAfter, toldReached}
+use Rattle.golden.specs.Stepping.{StepAnswer, message, end, stepOf, stepAt, nextAfter, toldReached, storedMessage}
 use Rattle.golden.specs.Stepping as step
 use Rattle.golden.specs.Walking.{Begins, Walks}
 use Rattle.golden.specs.declared.comparer.Comparison.{Comparison}
@@ -56,6 +56,10 @@ abbrev pub OtherFileStays : Type 0
 OtherFileStays =
     (file : RefT (List ℕ)) (walk : ℕ → Walk) (answer : ℕ → Reached) → WalkOver file walk answer
     → badFile (now file) ≡ true → (k : ℕ) → toldReached (answer k) ≡ step.refused (plainly 21)
+
+-- the message that a step answers lies where the stored length says
+abbrev pub StepReachesTheStored : Type 0
+StepReachesTheStored = (f : List ℕ) (n : ℕ) (p : Span) → stepAt f n ≡ message p → storedMessage f n ≡ p
 
 -- ---- check and find
 

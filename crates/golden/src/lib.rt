@@ -30,4 +30,5 @@ pub use crate::refusal::Refusal;
 pub use crate::stepper::Reached;
 pub use crate::stepper::Stepping;
 pub use crate::stepper::step;
+pub use crate::stepper::stored_message;
 pub use crate::walker::Walk;

@@ -71,7 +71,7 @@ pub(crate) fn open(bytes: &[u8]) -> Opening
     }
 }
 
-fn stored_length(bytes: &[u8]) -> usize
+pub(crate) fn stored_length(bytes: &[u8]) -> usize
     requires { ⌜ length (now bytes) ≡ recordSize ⌝ }
     ensures { λ r. ⌜ r ≡ storedLength (now (bytes .entry)) ⌝ }
 {

@@ -1,11 +1,12 @@
-// The walk's step, from a file and a number.
+// The walk's step, and where a message is stored, from a file and a number.
 ghost use mathlib.Core.Path.{_≡_};
-ghost use Rattle.golden.specs.Stepping.{stepAt, nextAfter, toldReached, Steps};
+ghost use Rattle.golden.specs.Stepping.{stepAt, nextAfter, toldReached, Steps, Stores};
 use crate::file::bad_file;
 use crate::file::count_of;
 use crate::file::open_at;
 use crate::record::Opening;
 use crate::record::Record;
+use crate::record::stored_length;
 use crate::refusal::Refusal;
 use envelope::Part;
 
@@ -58,4 +59,23 @@ fn next_after(file: &[u8], n: usize) -> usize
         return n;
     }
     n + 1
+}
+
+// Where the message of a record lies by its stored length, good or not, and be it past the record; no bytes, where there is no such record or file.
+pub fn stored_message(file: &[u8], n: usize) -> Part
+    ensures { λ r. ⌜ Stores (now (file .entry)) n r ⌝ }
+{
+    if bad_file(file) {
+        return Part { place: 0, size: 0 };
+    }
+    if count_of(file) <= n {
+        return Part { place: 0, size: 0 };
+    }
+    let start = n * Record::SIZE;
+    let end = start + Record::SIZE;
+    let size = stored_length(&file[start..end]);
+    Part {
+        place: start + Record::HEAD_SIZE,
+        size,
+    }
 }

@@ -7,12 +7,13 @@ use Rattle.envelope.specs.RoundTrips.{WrittenThenRead, WrittenBufferThenRead, W
 use Rattle.envelope.proofs.QosLaws.{joins-what-was-split, splits-what-was-joined}
 use Rattle.envelope.proofs.RoundTripLaws as trips
 use Rattle.golden.specs.Beginning.{NeverABeginning, Never32, CompareIsUnchanged, CompareNeverGives32}
-use Rattle.golden.specs.Theorems.{FileWalksInOrder, OtherFileStays, CheckedAreGood, GoodAreChecked, CheckNamesTheFirst, FirstBadIsNamed, FindsTheFirst, FindGivesItsReason, ReasonSettlesFind, SameIsEqual, MadeIsGood, NeverTooShort}
+use Rattle.golden.specs.Theorems.{FileWalksInOrder, OtherFileStays, StepReachesTheStored, CheckedAreGood, GoodAreChecked, CheckNamesTheFirst, FirstBadIsNamed, FindsTheFirst, FindGivesItsReason, ReasonSettlesFind, SameIsEqual, MadeIsGood, NeverTooShort}
 use Rattle.golden.proofs.BeginningLaws as beginning
 use Rattle.golden.proofs.CheckedLaws as checked
 use Rattle.golden.proofs.FoundLaws as found
 use Rattle.golden.proofs.MadeLaws as made
 use Rattle.golden.proofs.SameLaws as same
+use Rattle.golden.proofs.SteppingLaws as step
 use Rattle.golden.proofs.WalkLaws as walk
 
 -- the sums of the documents: no bytes, the digits 1 to 9 (case n), and the digits with their complemented sum
@@ -52,6 +53,9 @@ file-walks-in-order = walk.walks-in-order
 
 pub other-file-stays : OtherFileStays
 other-file-stays = walk.other-file-stays
+
+pub step-reaches-the-stored : StepReachesTheStored
+step-reaches-the-stored = step.step-reaches-the-stored
 
 pub checked-are-good : CheckedAreGood
 checked-are-good = checked.checked-are-good

@@ -19,6 +19,7 @@ pub mod WrongJudges
 pub mod Framing
 pub mod FrameCases
 pub mod WrongFrames
+pub mod WrongLayouts
 pub mod WrongExports
 pub mod WrongRules
 pub mod WrongStatements

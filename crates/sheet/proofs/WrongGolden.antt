@@ -6,7 +6,7 @@ use Prim.Native.Nat.{ℕ}
 use denote.Ref.{RefT, now}
 use native.Mathlib.Omega.{arith}
 use lib.ListN.{length, getD, set, replicate}
-use Rattle.envelope.specs.Fields.{absent}
+use Rattle.envelope.specs.Fields.{Span, absent}
 use Rattle.envelope.specs.Numbers.{twoAt}
 use Rattle.envelope.specs.declared.reader.Fault.the-variants.{TooShort}
 use Rattle.golden.specs.Checking.{counted, checking, Checks}
@@ -19,7 +19,7 @@ use Rattle.golden.specs.Positions.{noted}
 use Rattle.golden.specs.Record.{storedWord, storedLength, badLength, judging}
 use Rattle.envelope.specs.Refusals.{Refused, plainly, RefusalNumbers, numbersOf}
 use Rattle.golden.specs.Refusal.{NumbersGoldenRefusal}
-use Rattle.golden.specs.Stepping.{stepAt, nextAfter, Steps}
+use Rattle.golden.specs.Stepping.{stepAt, nextAfter, Steps, storedMessage, Stores}
 use Rattle.golden.specs.Theorems.{openedNumber}
 use Rattle.golden.specs.Walking.{Begins, Walks}
 use Rattle.golden.specs.declared.checker.Checking.the-variants as checking
@@ -113,6 +113,16 @@ one-on = refl
 
 pub walk-moves-on : (file : RefT (List ℕ)) (r : Reached) → now file ≡ recordOf M → Walks (record { file = file; next = 0 }) r (record { file = file; next = 0 }) → ⊥
 walk-moves-on file r e kept = apart 0 1 tt (kept .1 .1 ∙ ap (λ (f : List ℕ). nextAfter f 0) e ∙ one-on)
+
+-- ---- the stored message: a place past the end invented; a bad record, 257 bytes by its stored length, told as not there
+
+pub stored-message-invents-no-place : Stores [] 0 (record { place = 2; size = 0 }) → ⊥
+unfolding storedMessage badFile
+stored-message-invents-no-place kept = apart 2 0 tt (ap (λ (p : Span). p .place) kept)
+
+pub stored-message-tells-of-a-bad-record : Stores (replicate 512 1) 0 (record { place = 0; size = 0 }) → ⊥
+unfolding storedMessage badFile storedLength storedWord twoAt
+stored-message-tells-of-a-bad-record kept = apart 0 257 tt (ap (λ (p : Span). p .size) kept)
 
 -- ---- count and entry: one byte told as no records; a file told as none; 22 before 21; a line invented
 

@@ -15,10 +15,10 @@ taken s r e some = let there = first-is-there s in (omega (arith, e, there .1 so
 
 -- the frames told are no more than the bytes gone by
 abbrev Inv-loop : tie.InvT-loop
-Inv-loop capture frame₀ place₀ frame place = (place ≤ length capture) × (frame ≤ place + 1)
+Inv-loop manner capture frame₀ place₀ frame place = (place ≤ length capture) × (frame ≤ place + 1)
 
 abbrev μ-loop : tie.MeasureT-loop
-μ-loop capture frame₀ place₀ frame place = length capture - place
+μ-loop manner capture frame₀ place₀ frame place = length capture - place
 
 loop-holds : tie.Need-loop-holds Inv-loop μ-loop
 loop-holds c = search needs

@@ -8,10 +8,10 @@ use Rattle.emp.proofs.watching.take_piece.Statement.{statement}
 use Rattle.emp.proofs.watching.take_piece.Tie as tie
 
 abbrev Inv-loop : tie.InvT-loop
-Inv-loop kept₀ piece golden stream₀ from₀ kept stream from = from ≤ length piece
+Inv-loop manner kept₀ piece golden stream₀ from₀ kept stream from = from ≤ length piece
 
 abbrev μ-loop : tie.MeasureT-loop
-μ-loop kept₀ piece golden stream₀ from₀ kept stream from = length piece - from
+μ-loop manner kept₀ piece golden stream₀ from₀ kept stream from = length piece - from
 
 loop-holds : tie.Need-loop-holds Inv-loop μ-loop
 loop-holds c = search needs

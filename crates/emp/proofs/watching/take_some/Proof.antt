@@ -31,8 +31,8 @@ passed-requires c κs = search needs
 enum-known-found-2 : tie.Need-enum-known-found-2
 enum-known-found-2 c = search needs
 
-refuse-requires : tie.Need-refuse-requires
-refuse-requires c κs = search needs
+refuse-message-requires : tie.Need-refuse-message-requires
+refuse-message-requires c κs = search needs
 
 returns : tie.Need-returns
 returns c =
@@ -65,7 +65,7 @@ take-some-spec =
     enum-told-2
     passed-requires
     enum-known-found-2
-    refuse-requires
+    refuse-message-requires
     returns
     returns-2
     returns-3

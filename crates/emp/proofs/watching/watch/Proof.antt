@@ -5,10 +5,10 @@ use Rattle.emp.proofs.watching.watch.Statement.{statement}
 use Rattle.emp.proofs.watching.watch.Tie as tie
 
 abbrev Inv-loop : tie.InvT-loop
-Inv-loop golden beside kept₀ stream₀ reads₀ kept stream reads = Unit {0}
+Inv-loop manner golden beside kept₀ stream₀ reads₀ kept stream reads = Unit {0}
 
 abbrev μ-loop : tie.MeasureT-loop
-μ-loop golden beside kept₀ stream₀ reads₀ kept stream reads = reads
+μ-loop manner golden beside kept₀ stream₀ reads₀ kept stream reads = reads
 
 loop-holds : tie.Need-loop-holds Inv-loop μ-loop
 loop-holds c = tt

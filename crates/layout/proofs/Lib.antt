@@ -1,0 +1,2 @@
+pub mod AgreementLaws
+pub mod OnlyLaws

@@ -1,0 +1,58 @@
+-- `sides::show_places`: stays inside, and ends.
+use borrow.Author.Needs.{needs}
+use Prim.Native.Nat.{_-_}
+use Rattle.wording.proofs.sides.show_places.Statement.{statement}
+use Rattle.wording.proofs.sides.show_places.Tie as tie
+
+abbrev Inv-loop : tie.InvT-loop
+Inv-loop golden radio places orders i₀ i = Unit {0}
+
+abbrev μ-loop : tie.MeasureT-loop
+μ-loop golden radio places orders i₀ i = 512 - i
+
+loop-holds : tie.Need-loop-holds Inv-loop μ-loop
+loop-holds c = tt
+
+mul-show-place : tie.Need-mul-show-place Inv-loop μ-loop
+mul-show-place c = search needs
+
+element-copy-out-show-place : tie.Need-element-copy-out-show-place Inv-loop μ-loop
+element-copy-out-show-place c = search needs
+
+show-place-requires : tie.Need-show-place-requires Inv-loop μ-loop
+show-place-requires c κs = search needs
+
+fails-requires : tie.Need-fails-requires Inv-loop μ-loop
+fails-requires c κs = search needs
+
+returns : tie.Need-returns Inv-loop μ-loop
+returns c = search needs
+
+add-i : tie.Need-add-i Inv-loop μ-loop
+add-i c = search needs
+
+loop-less : tie.Need-loop-less Inv-loop μ-loop
+loop-less c = search needs
+
+loop-again : tie.Need-loop-again Inv-loop μ-loop
+loop-again c = tt
+
+returns-2 : tie.Need-returns-2 Inv-loop μ-loop
+returns-2 c = search needs
+
+pub show-places-spec : {M : Type 1} → statement M
+show-places-spec =
+    tie.close
+    (tie.spec
+    Inv-loop
+    μ-loop
+    loop-holds
+    mul-show-place
+    element-copy-out-show-place
+    show-place-requires
+    fails-requires
+    returns
+    add-i
+    loop-less
+    loop-again
+    returns-2)

@@ -1,0 +1,54 @@
+-- `sides::show_rows`: stays inside, and ends.
+use borrow.Author.Needs.{needs}
+use Prim.Native.Nat.{_-_}
+use Rattle.wording.proofs.sides.show_rows.Statement.{statement}
+use Rattle.wording.proofs.sides.show_rows.Tie as tie
+
+abbrev Inv-loop : tie.InvT-loop
+Inv-loop golden radio places orders place₀ place = Unit {0}
+
+abbrev μ-loop : tie.MeasureT-loop
+μ-loop golden radio places orders place₀ place = 512 - place
+
+loop-holds : tie.Need-loop-holds Inv-loop μ-loop
+loop-holds c = tt
+
+show-row-requires : tie.Need-show-row-requires Inv-loop μ-loop
+show-row-requires c κs = search needs
+
+fails-requires : tie.Need-fails-requires Inv-loop μ-loop
+fails-requires c κs = search needs
+
+returns : tie.Need-returns Inv-loop μ-loop
+returns c = search needs
+
+add-place : tie.Need-add-place Inv-loop μ-loop
+add-place c = search needs
+
+loop-less : tie.Need-loop-less Inv-loop μ-loop
+loop-less c = search needs
+
+loop-again : tie.Need-loop-again Inv-loop μ-loop
+loop-again c = tt
+
+show-more-requires : tie.Need-show-more-requires Inv-loop μ-loop
+show-more-requires c κs = search needs
+
+returns-2 : tie.Need-returns-2 Inv-loop μ-loop
+returns-2 c = search needs
+
+pub show-rows-spec : {M : Type 1} → statement M
+show-rows-spec =
+    tie.close
+    (tie.spec
+    Inv-loop
+    μ-loop
+    loop-holds
+    show-row-requires
+    fails-requires
+    returns
+    add-place
+    loop-less
+    loop-again
+    show-more-requires
+    returns-2)

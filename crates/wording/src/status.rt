@@ -1,0 +1,26 @@
+// How a run of the tool ended.
+// Rests on nothing; the launcher makes it the exit status.
+
+pub enum Status {
+    Done,
+    Refused,
+    Complained,
+    // a part of an answer is told, and more follows
+    Unfinished,
+}
+
+const LAUNCHER: i32 = 9;
+
+// A program of this language has no exit status, so the launcher reads a digit here. With no launcher the write fails, harmless.
+pub fn tell(status: Status) {
+    io::print_decimal(LAUNCHER, digit(status));
+}
+
+fn digit(status: Status) -> u64 {
+    match status {
+        Status::Done => 0,
+        Status::Refused => 1,
+        Status::Complained => 2,
+        Status::Unfinished => 3,
+    }
+}

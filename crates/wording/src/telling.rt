@@ -1,0 +1,217 @@
+// Every answer of the tool as a template, in words and plainly, and the complaints of its words and files. A template goes by its row.
+// Rests on `console`, which fills a template in. What is told is made whole and then written in one call; of a complaint, each half.
+use crate::refusals::by_refusals;
+use crate::status::Status;
+use console::filling::fill;
+use console::table::piece;
+use libc::STDERR_FILENO;
+use libc::STDOUT_FILENO;
+use std::num::wrapping_add_usize;
+
+pub enum Manner {
+    Words,
+    Plain,
+    // the status alone
+    Quiet,
+}
+
+// What ends a half of a template: the words, and then what is told plainly; of a complaint, its beginning and its end.
+const HALF_END: u8 = 0;
+
+// As much of a word is shown in a complaint: in hex it fills a page.
+pub(crate) const SHOWN: u64 = 1_000;
+
+// No half has this place.
+const NO_HALF: usize = 1_000;
+
+// An answer on standard output; the status, unless it could not be written. Of a part that cannot, the complaint is left to the last part.
+// `lent` is what the template's marks for text speak of.
+pub fn tell(manner: Manner, status: Status, row: usize, numbers: &[u64], lent: &[u8]) -> Status {
+    put_by(STDOUT_FILENO, status, half_of(manner, row), numbers, lent)
+}
+
+// A refusal, in the words of its number.
+pub fn refuse(manner: Manner, row: usize, numbers: &[u64]) -> Status {
+    by_refusals(STDOUT_FILENO, half_of(manner, row), numbers)
+}
+
+// A refusal where standard output is for bytes that are made.
+pub fn refuse_to_make(manner: Manner, numbers: &[u64]) -> Status {
+    by_refusals(
+        STDERR_FILENO,
+        half_of(manner, crate::rows::NOT_MADE),
+        numbers,
+    )
+}
+
+// Which half of all: none, where only the status is wanted.
+pub(crate) fn half_of(manner: Manner, row: usize) -> usize {
+    match manner {
+        Manner::Words => wrapping_add_usize(row, row),
+        Manner::Plain => wrapping_add_usize(wrapping_add_usize(row, row), 1),
+        Manner::Quiet => NO_HALF,
+    }
+}
+
+pub(crate) fn put_by(to: i32, status: Status, half: usize, numbers: &[u64], lent: &[u8]) -> Status {
+    put_template(
+        to,
+        status,
+        half,
+        numbers,
+        lent,
+        b"message #: type #, number #, # byte*, {first|repeat|next|ahead #|behind #}{|, no record of that type and number|, record #, same|, record #, different in # place*|, record #, not compared}
+\0message\t#\t#\t#\t#\t{-|0|1|#|-#}\t{-\t-|-\t-|#\t0|#\t#|#\t-}
+\0message #, after # byte*: refused !
+\0refused\t#\t#\t#\t#
+\0# record*
+\0\0record #: type #, number #, # byte*
+\0good\t#\t#\t#\t#
+\0record #: refused !
+\0refused\t#\t#\t#
+\0good: # record*
+\0good\t#
+\0{|record #: }_refused !_
+\0refused\t{-|#}_\t#\t#_
+\0record # (# opened)
+\0found\t#\t#
+\0{|record #: }_refused ! (# opened)
+\0refused\t{-|#}\t#\t#\t#_
+\0same, # byte*
+\0same\t#
+\0refused !
+\0refused\t#\t#
+\0emp: refused !
+\0refused\t#\t#
+\0accepted, # byte*
+header version        #
+message type          #
+message version       #
+flags                 & (hex)
+  time format         {relative|absolute}
+  encrypted           {no|yes}
+  compressed          {no|yes}
+  integrity kind      {0, none|1, CRC|2, application-specific}
+data length           #
+message number        #
+message time          #
+\0accepted\t#_\t#\t#\t&____\t#\t#\t#\0variable header size  0, so there is no time to live, QoS, source or destination
+\0\t0\t-\t-\t-\t-\0variable header size  #
+time to live          # second*
+QoS                   #
+  service request     #
+  special handling    #
+  network preference  #
+  priority            #
+  class               #
+\0\t#\t#\t#_____\0source                {(empty)|^}
+destination           {(empty)|^}
+\0\t{\\0|^}\t{\\0|^}\0body                  # byte* from place #%{|
+  ... # more byte*}
+integrity             $ (hex), {none|the CRC of all bytes before it|the application's own number}
+\0\t_#____\t$\t#
+\0accepted, # byte*
+\0accepted\t#
+\0rule 1, the message has at least 21 bytes: {kept|broken}, it has #
+rule 2, the header version is 4: {kept|broken|not judged}, {it is #|it needs at least # byte*, the message has #}
+rule 3, no unassigned flag (bits 5 to 7) is set and the integrity kind is not 3: {kept|broken|not judged}, {flags & (hex), kind #|it needs at least # byte*, the message has #}
+rule 4, the variable header size (V) is 0, or 6 to 132: {kept|broken|not judged}, {V is #|it needs at least # byte*, the message has #}
+\0rule\t1\t{kept|broken}_
+rule\t2\t{kept|broken|unjudged}____
+rule\t3\t{kept|broken|unjudged}_____
+rule\t4\t{kept|broken|unjudged}____
+\0rule 5, 17 + V + the data length + 4 is the length of the message: {kept|broken|not judged}, {17 + # + # + 4 is #, it has #|it needs at least # byte*, the message has #}
+rule 6, bytes 21 to 16 + V are two addresses, each at most 64 bytes with its zero: {kept|broken|not judged}, {source # byte*, destination # byte*, # left over|source # byte*, destination without a zero, # left over|source without a zero, destination without a zero, # left over|it needs at least # byte*, the message has #|it is for V from 6 to 132 alone}
+\0rule\t5\t{kept|broken|unjudged}_______
+rule\t6\t{kept|broken|unjudged}_________
+\0rule 7, the integrity field is {zero where the kind is 0|the CRC, the kind being 1}: {kept|broken|not judged}, {the field says $, the kind is #|the field says $, division gives $|it needs at least # byte*, the message has #}
+\0rule\t7\t_{kept|broken|unjudged}_______
+\0$  # byte*
+\0sum\t$\t#
+\0data message, COMMID #, frame of # byte*
+\0\0frame #_: data message, COMMID #, type #, number #, # byte*
+\0data\t#\t#\t#\t#\t#\t#
+\0{|frame #_: }acknowledgment, COMMID #, of COMMID #
+\0_acknowledgment\t#\t#\t#\t#
+\0frame #, at place #: refused !
+\0refused\t#\t#\t#\t#
+\0emp 1.0, {by a kit that is not known|proved by ^}
+\0version\t1.0\t{-|^}
+\0~\0\0emp ~
+    ~
+{|    plainly: ~
+}\0~
+\0different in # place*
+place   golden                            radio                           differs in
+\0different\t#
+\0{    |   |  }#  { & |[&]|[--]|    }{ & |[&]|[--]|    }{ & |[&]|[--]|    }{ & |[&]|[--]|    }{ & |[&]|[--]|    }{ & |[&]|[--]|    }{ & |[&]|[--]|    }{ & |[&]|[--]|    }  { & |[&]|[--]|    }{ & |[&]|[--]|    }{ & |[&]|[--]|    }{ & |[&]|[--]|    }{ & |[&]|[--]|    }{ & |[&]|[--]|    }{ & |[&]|[--]|    }{ & |[&]|[--]|    }{| header version|, header version}{| message type|, message type}{| message version|, message version}{| flags|, flags}{| data length|, data length}{| message number|, message number}{| message time|, message time}{| variable header size|, variable header size}{| time to live|, time to live}{| QoS|, QoS}{| source|, source}{| destination|, destination}{| body|, body}{| integrity|, integrity}
+\0\0\0place\t#\t{-|&}\t{-|&}\t{header version|message type|message version|flags|data length|message number|message time|variable header size|time to live|QoS|source|destination|body|integrity}
+\0... # more row*, # more differing place*
+\0\0emp: no command was given; emp help tells what there is\0
+\0emp: '^' is no command; \0the nearest is ^, and emp help has all
+\0emp: '^' is no option; \0the nearest is ^, and emp help has all
+\0emp: too many words; \0the form is emp ^
+\0emp: too few words; \0the form is emp ^
+\0emp: -q is for check and compare alone\0
+\0emp: standard input, which - names, can be read once\0
+\0emp: a word is too long: it has at most 4096 bytes\0
+\0emp: ^ must be a number from 0 to \0^, in 1 to 10 digits and nothing else
+\0emp: '^' has more than 65536 bytes, the most that emp takes\0
+\0",
+    )
+}
+
+fn put_template(
+    to: i32,
+    status: Status,
+    half: usize,
+    numbers: &[u64],
+    lent: &[u8],
+    templates: &[u8],
+) -> Status {
+    let mut page = io::buffer();
+    let size = fill(
+        &mut page,
+        0,
+        piece(templates, HALF_END, half),
+        numbers,
+        lent,
+    );
+    put_on(to, &page[..size], status)
+}
+
+// Bytes on standard output, and the status, unless they could not be written.
+pub fn put(bytes: &[u8], status: Status) -> Status {
+    put_on(STDOUT_FILENO, bytes, status)
+}
+
+fn put_on(to: i32, bytes: &[u8], status: Status) -> Status {
+    if io::write_all(to, bytes) {
+        return status;
+    }
+    match status {
+        Status::Unfinished => {}
+        _ => os::fail(b"emp: cannot write the answer"),
+    }
+    Status::Complained
+}
+
+// One line on standard error: the one half of a complaint with a text in it, and then the other with another.
+pub fn complain(row: usize, text: &[u8], other: &[u8]) -> Status {
+    let front = [0, SHOWN];
+    put_by(
+        STDERR_FILENO,
+        Status::Unfinished,
+        half_of(Manner::Words, row),
+        &front,
+        text,
+    );
+    put_by(
+        STDERR_FILENO,
+        Status::Unfinished,
+        half_of(Manner::Plain, row),
+        &front,
+        other,
+    );
+    Status::Complained
+}
