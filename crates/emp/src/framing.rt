@@ -63,13 +63,16 @@ fn unwrap_frame(file: &[u8]) -> Status {
 fn show_data(data: DataMessage, file: &[u8]) -> Status {
     let message = data.message;
     let envelope = data.envelope;
-    tell(
+    let head = tell(
         Manner::Words,
-        Status::Unfinished,
+        Status::Done,
         rows::FRAME,
         &[data.commid as u64, file.len() as u64],
         file,
     );
+    if head.is_complaint() {
+        return head;
+    }
     show_message(Manner::Words, envelope, message.slice(file))
 }
 

@@ -32,10 +32,9 @@ struct Sizes {
 
 pub fn judge_message(manner: Manner, message: &[u8]) -> Status {
     let judging = judge(message);
-    let sizes = sizes_in(message);
-    tell_first_four(manner, message, judging);
-    tell_sizes(manner, message, judging, sizes);
-    tell_integrity(manner, message, judging, sizes);
+    if tell_rules(manner, message, judging).is_complaint() {
+        return Status::Complained;
+    }
     match read(message) {
         Reading::Accepted(_) => tell(
             manner,
@@ -48,8 +47,19 @@ pub fn judge_message(manner: Manner, message: &[u8]) -> Status {
     }
 }
 
+fn tell_rules(manner: Manner, message: &[u8], judging: Judging) -> Status {
+    let sizes = sizes_in(message);
+    if tell_first_four(manner, message, judging).is_complaint() {
+        return Status::Complained;
+    }
+    if tell_sizes(manner, message, judging, sizes).is_complaint() {
+        return Status::Complained;
+    }
+    tell_integrity(manner, message, judging, sizes)
+}
+
 // Each about one number.
-fn tell_first_four(manner: Manner, message: &[u8], judging: Judging) {
+fn tell_first_four(manner: Manner, message: &[u8], judging: Judging) -> Status {
     let least = judging.least;
     let least = number_of(least);
     let version = judging.version;
@@ -62,7 +72,7 @@ fn tell_first_four(manner: Manner, message: &[u8], judging: Judging) {
     let held = byte_at(message, Envelope::FLAGS_PLACE);
     tell(
         manner,
-        Status::Unfinished,
+        Status::Done,
         rows::RULES_OF_ONE_NUMBER,
         &[
             least,
@@ -85,11 +95,11 @@ fn tell_first_four(manner: Manner, message: &[u8], judging: Judging) {
             length,
         ],
         message,
-    );
+    )
 }
 
 // Rules 5 and 6 go by the sizes that the header states. An address is counted with its closing zero.
-fn tell_sizes(manner: Manner, message: &[u8], judging: Judging, sizes: Sizes) {
+fn tell_sizes(manner: Manner, message: &[u8], judging: Judging, sizes: Sizes) -> Status {
     let length = judging.length;
     let length = number_of(length);
     let addresses = judging.addresses;
@@ -103,7 +113,7 @@ fn tell_sizes(manner: Manner, message: &[u8], judging: Judging, sizes: Sizes) {
     let has = message.len() as u64;
     tell(
         manner,
-        Status::Unfinished,
+        Status::Done,
         rows::RULES_OF_SIZES,
         &[
             length,
@@ -126,7 +136,7 @@ fn tell_sizes(manner: Manner, message: &[u8], judging: Judging, sizes: Sizes) {
             has,
         ],
         message,
-    );
+    )
 }
 
 // The bytes up to the variable header's end; for a V that is not 6 to 132, those that tell so.
@@ -158,7 +168,7 @@ fn not_judged(too_few: bool) -> u64 {
     4
 }
 
-fn tell_integrity(manner: Manner, message: &[u8], judging: Judging, sizes: Sizes) {
+fn tell_integrity(manner: Manner, message: &[u8], judging: Judging, sizes: Sizes) -> Status {
     let integrity = judging.integrity;
     let integrity = number_of(integrity);
     let kind = kind(byte_at(message, Envelope::FLAGS_PLACE));
@@ -173,7 +183,7 @@ fn tell_integrity(manner: Manner, message: &[u8], judging: Judging, sizes: Sizes
     );
     tell(
         manner,
-        Status::Unfinished,
+        Status::Done,
         rows::RULE_OF_INTEGRITY,
         &[
             is_crc,
@@ -187,7 +197,7 @@ fn tell_integrity(manner: Manner, message: &[u8], judging: Judging, sizes: Sizes
             message.len() as u64,
         ],
         message,
-    );
+    )
 }
 
 // Which of the words of rule 7: those of the kind, or of too few bytes.

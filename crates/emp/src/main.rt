@@ -87,7 +87,7 @@ fn run_row(commands: &[u8], found: usize, given: Given, names: &[usize; NAMES]) 
         return Status::Complained;
     }
     if given.help {
-        return helping::help_for(manner_of_help(given), Status::Done, line, true);
+        return helping::help_for(manner_of_help(given), line, true);
     }
     match command_of(piece(line, commands::TAB, 0), found, given, names) {
         Asked::Command(command) => answer(command, commands),
@@ -117,7 +117,7 @@ fn help_on(manner: Manner, commands: &[u8], argument: usize) -> Status {
     if line.len() == 0 {
         return Status::Complained;
     }
-    helping::help_for(manner, Status::Done, line, true)
+    helping::help_for(manner, line, true)
 }
 
 // Any other command names a file, but for watch, which may.

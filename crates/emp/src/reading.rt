@@ -41,16 +41,22 @@ pub fn show_message(manner: Manner, accepted: Envelope, message: &[u8]) -> Statu
     let body = accepted.body;
     let addressing = accepted.addressing;
     let integrity = accepted.integrity;
-    show_header(manner, header, body.size, message);
-    show_addressing(manner, addressing, body.place, message);
+    let first = show_header(manner, header, body.size, message);
+    if first.is_complaint() {
+        return first;
+    }
+    let second = show_addressing(manner, addressing, body.place, message);
+    if second.is_complaint() {
+        return second;
+    }
     show_body(manner, body, header.flags, held_in(integrity), message)
 }
 
-fn show_header(manner: Manner, header: Header, data_length: usize, message: &[u8]) {
+fn show_header(manner: Manner, header: Header, data_length: usize, message: &[u8]) -> Status {
     let flags = header.flags;
     tell(
         manner,
-        Status::Unfinished,
+        Status::Done,
         rows::HEADER,
         &[
             message.len() as u64,
@@ -67,22 +73,28 @@ fn show_header(manner: Manner, header: Header, data_length: usize, message: &[u8
             header.time as u64,
         ],
         message,
-    );
+    )
 }
 
-fn show_addressing(manner: Manner, addressing: Addressing, body_place: usize, message: &[u8]) {
+fn show_addressing(
+    manner: Manner,
+    addressing: Addressing,
+    body_place: usize,
+    message: &[u8],
+) -> Status {
     match addressing {
-        Addressing::Absent => {
-            tell(manner, Status::Unfinished, rows::UNROUTED, &[0], message);
-        }
+        Addressing::Absent => tell(manner, Status::Done, rows::UNROUTED, &[0], message),
         Addressing::Present {
             ttl,
             qos,
             source,
             destination,
         } => {
-            show_routing(manner, variable_size(body_place), ttl, qos, message);
-            show_ends(manner, source, destination, message);
+            let routed = show_routing(manner, variable_size(body_place), ttl, qos, message);
+            if routed.is_complaint() {
+                return routed;
+            }
+            show_ends(manner, source, destination, message)
         }
     }
 }
@@ -95,11 +107,11 @@ fn variable_size(body_place: usize) -> usize {
     body_place - Envelope::HEADER_SIZE
 }
 
-fn show_routing(manner: Manner, variable: usize, ttl: u16, qos: u16, message: &[u8]) {
+fn show_routing(manner: Manner, variable: usize, ttl: u16, qos: u16, message: &[u8]) -> Status {
     let parts = split(qos);
     tell(
         manner,
-        Status::Unfinished,
+        Status::Done,
         rows::ROUTED,
         &[
             variable as u64,
@@ -112,13 +124,13 @@ fn show_routing(manner: Manner, variable: usize, ttl: u16, qos: u16, message: &[
             parts.class as u64,
         ],
         message,
-    );
+    )
 }
 
-fn show_ends(manner: Manner, source: Part, destination: Part, message: &[u8]) {
+fn show_ends(manner: Manner, source: Part, destination: Part, message: &[u8]) -> Status {
     tell(
         manner,
-        Status::Unfinished,
+        Status::Done,
         rows::ENDS,
         &[
             (source.size != 0) as u64,
@@ -129,7 +141,7 @@ fn show_ends(manner: Manner, source: Part, destination: Part, message: &[u8]) {
             destination.size as u64,
         ],
         message,
-    );
+    )
 }
 
 fn show_body(manner: Manner, body: Part, flags: u8, held: u32, message: &[u8]) -> Status {

@@ -1,30 +1,28 @@
 // Help: a command's form and what it does, or every command, option, exit status and refusal; and the version.
 // Rests on the table of commands, which is lent.
 use crate::commands::TAB;
-use crate::refusals::by_refusals;
+use crate::refusals::list_refusals;
 use crate::rows;
 use crate::status::Status;
 use crate::telling::Manner;
-use crate::telling::half_of;
 use crate::telling::put;
 use crate::telling::tell;
 use console::table::piece;
 use console::table::row;
-use libc::STDOUT_FILENO;
 use std::num::wrapping_add_usize;
 
 // The launcher has the name of the kit that proved the program ready on this descriptor.
 const KIT: i32 = 8;
 
 // One command, by its row of the table: its form, what it does, and the lines that it tells plainly.
-pub fn help_for(manner: Manner, status: Status, line: &[u8], whole: bool) -> Status {
+pub fn help_for(manner: Manner, line: &[u8], whole: bool) -> Status {
     let form = piece(line, TAB, 0).len();
     let does = piece(line, TAB, 1).len();
     let behind_form = wrapping_add_usize(form, 1);
     let behind = wrapping_add_usize(wrapping_add_usize(behind_form, does), 1);
     tell(
         manner,
-        status,
+        Status::Done,
         rows::COMMAND,
         &[
             0,
@@ -42,17 +40,27 @@ pub fn help_for(manner: Manner, status: Status, line: &[u8], whole: bool) -> Sta
 pub fn help(manner: Manner, commands: &[u8]) -> Status {
     match manner {
         Manner::Words => help_in_words(commands),
-        _ => list_commands(manner, Status::Done, commands),
+        _ => list_commands(manner, commands),
     }
 }
 
 fn help_in_words(commands: &[u8]) -> Status {
-    put(
+    let head = put(
         b"emp tells what golden files, EMP messages and Class D frames hold. Files are opened for reading only.\n\n",
-        Status::Unfinished,
+        Status::Done,
     );
-    list_commands(Manner::Words, Status::Unfinished, commands);
-    put(
+    if head.is_complaint() {
+        return head;
+    }
+    let listed = list_commands(Manner::Words, commands);
+    if listed.is_complaint() {
+        return listed;
+    }
+    help_on_the_rest()
+}
+
+fn help_on_the_rest() -> Status {
+    let rest = put(
         b"
 GOLDEN, RADIO, MESSAGE, FRAME and FILE are names of files, from which at most 65536 bytes are taken; - is standard
 input, which one of them may be. TYPE, NUMBER, RECORD, COMMID and ACKNOWLEDGED are numbers in digits; the first
@@ -76,33 +84,28 @@ Exit status
 
 Refusals
 ",
-        Status::Unfinished,
+        Status::Done,
     );
-    match by_refusals(
-        STDOUT_FILENO,
-        half_of(Manner::Words, rows::ALL_REFUSALS),
-        &[0, u64::MAX],
-    ) {
+    if rest.is_complaint() {
+        return rest;
+    }
+    match list_refusals() {
         Status::Complained => Status::Complained,
         _ => Status::Done,
     }
 }
 
-fn list_commands(manner: Manner, status: Status, commands: &[u8]) -> Status {
+fn list_commands(manner: Manner, commands: &[u8]) -> Status {
     let mut k = 0;
     while k < commands.len() {
         let line = row(commands, k);
         if line.len() == 0 {
             return Status::Done;
         }
-        match help_for(manner, status, line, false) {
-            Status::Complained => {
-                return Status::Complained;
-            }
-            _ => {
-                k += 1;
-            }
+        if help_for(manner, line, false).is_complaint() {
+            return Status::Complained;
         }
+        k += 1;
     }
     Status::Done
 }

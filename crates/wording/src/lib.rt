@@ -10,8 +10,8 @@ pub mod sides;
 pub mod status;
 pub mod telling;
 
+pub use crate::refusals::refuse;
+pub use crate::refusals::refuse_to_make;
 pub use crate::status::Status;
 pub use crate::telling::Manner;
-pub use crate::telling::refuse;
-pub use crate::telling::refuse_to_make;
 pub use crate::telling::tell;

@@ -1,10 +1,34 @@
-// Every number of the tables of refusals, in words.
-// Rests on `telling`, which fills them in.
+// Refusals, in words: every number of their tables.
+// Rests on `telling`, which has their templates and fills the words in.
+use crate::rows;
 use crate::status::Status;
+use crate::telling::Manner;
+use crate::telling::half_of;
 use crate::telling::put_by;
+use libc::STDERR_FILENO;
+use libc::STDOUT_FILENO;
+
+// A refusal on standard output.
+pub fn refuse(manner: Manner, row: usize, numbers: &[u64]) -> Status {
+    by_refusals(STDOUT_FILENO, half_of(manner, row), numbers)
+}
+
+// A refusal where standard output is for bytes that are made.
+pub fn refuse_to_make(manner: Manner, numbers: &[u64]) -> Status {
+    by_refusals(STDERR_FILENO, half_of(manner, rows::NOT_MADE), numbers)
+}
+
+// All of them, a line each.
+pub(crate) fn list_refusals() -> Status {
+    by_refusals(
+        STDOUT_FILENO,
+        half_of(Manner::Words, rows::ALL_REFUSALS),
+        &[0, u64::MAX],
+    )
+}
 
 // A template of refusals, by its half.
-pub(crate) fn by_refusals(to: i32, half: usize, numbers: &[u64]) -> Status {
+fn by_refusals(to: i32, half: usize, numbers: &[u64]) -> Status {
     put_by(
         to,
         Status::Refused,

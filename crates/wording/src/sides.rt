@@ -39,26 +39,20 @@ pub fn show_difference(
     places: &[u32; PLACES],
     orders: &[usize; PLACES],
 ) -> Status {
-    if fails(tell(
+    let head = tell(
         manner,
         Status::Refused,
         rows::DIFFERENT,
         &[total as u64],
         golden,
-    )) {
+    );
+    if head.is_complaint() {
         return Status::Complained;
     }
     match manner {
         Manner::Words => show_rows(golden, radio, places, orders),
         Manner::Plain => show_places(golden, radio, places, orders),
         Manner::Quiet => Status::Refused,
-    }
-}
-
-fn fails(status: Status) -> bool {
-    match status {
-        Status::Complained => true,
-        _ => false,
     }
 }
 
@@ -70,7 +64,7 @@ fn show_rows(
 ) -> Status {
     let mut place = 0;
     while place < PLACES {
-        if fails(show_row(golden, radio, places, orders, place)) {
+        if show_row(golden, radio, places, orders, place).is_complaint() {
             return Status::Complained;
         }
         place += ROW;
@@ -261,7 +255,7 @@ fn show_places(
 ) -> Status {
     let mut i = 0;
     while i < PLACES {
-        if fails(show_place(golden, radio, orders, places[i])) {
+        if show_place(golden, radio, orders, places[i]).is_complaint() {
             return Status::Complained;
         }
         i += 1;

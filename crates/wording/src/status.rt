@@ -5,8 +5,16 @@ pub enum Status {
     Done,
     Refused,
     Complained,
-    // a part of an answer is told, and more follows
-    Unfinished,
+}
+
+impl Status {
+    // Whether there is a complaint already, so that no more is to be told.
+    pub fn is_complaint(self) -> bool {
+        match self {
+            Status::Complained => true,
+            _ => false,
+        }
+    }
 }
 
 const LAUNCHER: i32 = 9;
@@ -21,6 +29,5 @@ fn digit(status: Status) -> u64 {
         Status::Done => 0,
         Status::Refused => 1,
         Status::Complained => 2,
-        Status::Unfinished => 3,
     }
 }

@@ -1,6 +1,5 @@
 // Every answer of the tool as a template, in words and plainly, and the complaints of its words and files. A template goes by its row.
 // Rests on `console`, which fills a template in. What is told is made whole and then written in one call; of a complaint, each half.
-use crate::refusals::by_refusals;
 use crate::status::Status;
 use console::filling::fill;
 use console::table::piece;
@@ -24,24 +23,9 @@ pub(crate) const SHOWN: u64 = 1_000;
 // No half has this place.
 const NO_HALF: usize = 1_000;
 
-// An answer on standard output; the status, unless it could not be written. Of a part that cannot, the complaint is left to the last part.
-// `lent` is what the template's marks for text speak of.
+// An answer, or a part of one, on standard output; the status, or, where it could not be written, the complaint. `lent` is what the template's marks for text speak of.
 pub fn tell(manner: Manner, status: Status, row: usize, numbers: &[u64], lent: &[u8]) -> Status {
     put_by(STDOUT_FILENO, status, half_of(manner, row), numbers, lent)
-}
-
-// A refusal, in the words of its number.
-pub fn refuse(manner: Manner, row: usize, numbers: &[u64]) -> Status {
-    by_refusals(STDOUT_FILENO, half_of(manner, row), numbers)
-}
-
-// A refusal where standard output is for bytes that are made.
-pub fn refuse_to_make(manner: Manner, numbers: &[u64]) -> Status {
-    by_refusals(
-        STDERR_FILENO,
-        half_of(manner, crate::rows::NOT_MADE),
-        numbers,
-    )
 }
 
 // Which half of all: none, where only the status is wanted.
@@ -189,10 +173,7 @@ fn put_on(to: i32, bytes: &[u8], status: Status) -> Status {
     if io::write_all(to, bytes) {
         return status;
     }
-    match status {
-        Status::Unfinished => {}
-        _ => os::fail(b"emp: cannot write the answer"),
-    }
+    os::fail(b"emp: cannot write the answer");
     Status::Complained
 }
 
@@ -201,14 +182,14 @@ pub fn complain(row: usize, text: &[u8], other: &[u8]) -> Status {
     let front = [0, SHOWN];
     put_by(
         STDERR_FILENO,
-        Status::Unfinished,
+        Status::Complained,
         half_of(Manner::Words, row),
         &front,
         text,
     );
     put_by(
         STDERR_FILENO,
-        Status::Unfinished,
+        Status::Complained,
         half_of(Manner::Plain, row),
         &front,
         other,

@@ -6,10 +6,10 @@ use Rattle.wording.proofs.helping.list_commands.Statement.{statement}
 use Rattle.wording.proofs.helping.list_commands.Tie as tie
 
 abbrev Inv-loop : tie.InvT-loop
-Inv-loop manner status commands k₀ k = k ≤ length commands
+Inv-loop manner commands k₀ k = k ≤ length commands
 
 abbrev μ-loop : tie.MeasureT-loop
-μ-loop manner status commands k₀ k = length commands - k
+μ-loop manner commands k₀ k = length commands - k
 
 loop-holds : tie.Need-loop-holds Inv-loop μ-loop
 loop-holds c = search needs
@@ -23,8 +23,8 @@ returns c = search needs
 help-for-requires : tie.Need-help-for-requires Inv-loop μ-loop
 help-for-requires c κs = search needs
 
-enum-told : tie.Need-enum-told Inv-loop μ-loop
-enum-told c = search needs
+is-complaint-requires : tie.Need-is-complaint-requires Inv-loop μ-loop
+is-complaint-requires c κs = search needs
 
 returns-2 : tie.Need-returns-2 Inv-loop μ-loop
 returns-2 c = search needs
@@ -51,7 +51,7 @@ list-commands-spec =
     row-requires
     returns
     help-for-requires
-    enum-told
+    is-complaint-requires
     returns-2
     add-k
     loop-less

@@ -1,17 +1,17 @@
 -- `sides::show_places`: stays inside, and ends.
 use borrow.Author.Needs.{needs}
-use Prim.Native.Nat.{_-_}
+use Prim.Native.Nat.{_-_, _≤_}
 use Rattle.wording.proofs.sides.show_places.Statement.{statement}
 use Rattle.wording.proofs.sides.show_places.Tie as tie
 
 abbrev Inv-loop : tie.InvT-loop
-Inv-loop golden radio places orders i₀ i = Unit {0}
+Inv-loop golden radio places orders i₀ i = i ≤ 512
 
 abbrev μ-loop : tie.MeasureT-loop
 μ-loop golden radio places orders i₀ i = 512 - i
 
 loop-holds : tie.Need-loop-holds Inv-loop μ-loop
-loop-holds c = tt
+loop-holds c = search needs
 
 mul-show-place : tie.Need-mul-show-place Inv-loop μ-loop
 mul-show-place c = search needs
@@ -22,8 +22,8 @@ element-copy-out-show-place c = search needs
 show-place-requires : tie.Need-show-place-requires Inv-loop μ-loop
 show-place-requires c κs = search needs
 
-fails-requires : tie.Need-fails-requires Inv-loop μ-loop
-fails-requires c κs = search needs
+is-complaint-requires : tie.Need-is-complaint-requires Inv-loop μ-loop
+is-complaint-requires c κs = search needs
 
 returns : tie.Need-returns Inv-loop μ-loop
 returns c = search needs
@@ -35,7 +35,7 @@ loop-less : tie.Need-loop-less Inv-loop μ-loop
 loop-less c = search needs
 
 loop-again : tie.Need-loop-again Inv-loop μ-loop
-loop-again c = tt
+loop-again c = search needs
 
 returns-2 : tie.Need-returns-2 Inv-loop μ-loop
 returns-2 c = search needs
@@ -50,7 +50,7 @@ show-places-spec =
     mul-show-place
     element-copy-out-show-place
     show-place-requires
-    fails-requires
+    is-complaint-requires
     returns
     add-i
     loop-less

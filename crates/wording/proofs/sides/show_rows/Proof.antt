@@ -16,8 +16,8 @@ loop-holds c = tt
 show-row-requires : tie.Need-show-row-requires Inv-loop μ-loop
 show-row-requires c κs = search needs
 
-fails-requires : tie.Need-fails-requires Inv-loop μ-loop
-fails-requires c κs = search needs
+is-complaint-requires : tie.Need-is-complaint-requires Inv-loop μ-loop
+is-complaint-requires c κs = search needs
 
 returns : tie.Need-returns Inv-loop μ-loop
 returns c = search needs
@@ -45,7 +45,7 @@ show-rows-spec =
     μ-loop
     loop-holds
     show-row-requires
-    fails-requires
+    is-complaint-requires
     returns
     add-place
     loop-less
