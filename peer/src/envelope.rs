@@ -19,7 +19,6 @@ pub const LONGEST_END: usize = 64;
 pub const LONGEST_BODY: usize = 0xFF_FFFF;
 
 const HEADER_VERSION: u8 = 4;
-const ABSOLUTE_TIME: u8 = 0b0000_0001;
 
 /// Why a message is not read.
 #[derive(Clone, Copy, Debug, PartialEq, Eq)]
@@ -325,17 +324,13 @@ pub enum Lateness {
     NoClock,
 }
 
-/// Whether a message is late at a clock in seconds; the TTL is absent where there is no variable header.
-pub fn lateness(flags: u8, time: u32, ttl: Option<u16>, clock: u64) -> Lateness {
+/// Whether a message is late at a clock, counted from its entry into the messaging infrastructure, both in seconds.
+/// The TTL is absent where there is no variable header, and blank where it is 0.
+pub fn lateness(ttl: Option<u16>, entry: u64, clock: u64) -> Lateness {
     match ttl {
-        Some(ttl) if time != 0 && flags & ABSOLUTE_TIME != 0 => {
-            if clock > u64::from(time) + u64::from(ttl) {
-                Lateness::Late
-            } else {
-                Lateness::InTime
-            }
-        }
-        _ => Lateness::NoClock,
+        None | Some(0) => Lateness::NoClock,
+        Some(ttl) if u128::from(clock) > u128::from(entry) + u128::from(ttl) => Lateness::Late,
+        Some(_) => Lateness::InTime,
     }
 }
 
@@ -416,11 +411,64 @@ mod tests {
         assert_eq!(Qos { class: 8, ..priority }.join(), Err(DoesNotFit));
     }
 
+    /// Late is past entry + TTL, so the very second is in time and the next one late.
     #[test]
-    fn a_late_sum_does_not_run_round() {
-        let latest = u64::from(u32::MAX) + u64::from(u16::MAX);
-        assert_eq!(lateness(1, u32::MAX, Some(u16::MAX), latest), Lateness::InTime);
-        assert_eq!(lateness(1, u32::MAX, Some(u16::MAX), latest + 1), Lateness::Late);
-        assert_eq!(lateness(0, 1, Some(0), 2), Lateness::NoClock);
+    fn a_message_is_late_from_the_second_after_its_last() {
+        let past_32_bits = (1 << 32) + 65_535;
+        for (ttl, entry, last) in
+            [(1, 0, 1), (1, 5, 6), (65_535, 0, 65_535), (65_535, 5, 65_540), (65_535, 1 << 32, past_32_bits)]
+        {
+            assert_eq!(lateness(Some(ttl), entry, entry), Lateness::InTime, "TTL {ttl}, entry {entry}");
+            assert_eq!(lateness(Some(ttl), entry, last), Lateness::InTime, "TTL {ttl}, entry {entry}");
+            assert_eq!(lateness(Some(ttl), entry, last + 1), Lateness::Late, "TTL {ttl}, entry {entry}");
+        }
+    }
+
+    /// A clock before the entry is past nothing, however large the difference would be if it ran round.
+    #[test]
+    fn a_clock_before_the_entry_is_in_time() {
+        for (entry, clock) in
+            [(1, 0), (5, 4), (1 << 32, 0), (1 << 32, (1 << 32) - 1), (u64::MAX, 0), (u64::MAX, 1 << 63)]
+        {
+            for ttl in [1, 65_535] {
+                assert_eq!(lateness(Some(ttl), entry, clock), Lateness::InTime, "TTL {ttl}, entry {entry}");
+            }
+        }
+    }
+
+    /// The sum is a whole number: no clock is past the largest entry and a TTL.
+    #[test]
+    fn a_late_sum_does_not_run_round_at_64_bits() {
+        for clock in [0, 1, 65_534, 65_535, 65_536, u64::MAX - 1, u64::MAX] {
+            assert_eq!(lateness(Some(1), u64::MAX, clock), Lateness::InTime, "clock {clock}");
+            assert_eq!(lateness(Some(65_535), u64::MAX, clock), Lateness::InTime, "clock {clock}");
+        }
+        // The largest clock is past a sum just below it, and not past one that is the same.
+        for ttl in [1, 65_535] {
+            let entry = u64::MAX - u64::from(ttl);
+            assert_eq!(lateness(Some(ttl), entry - 1, u64::MAX), Lateness::Late, "TTL {ttl}");
+            assert_eq!(lateness(Some(ttl), entry, u64::MAX), Lateness::InTime, "TTL {ttl}");
+        }
+    }
+
+    /// Neither the sum nor a number in it, nor what lies between entry and clock, is cut to 32 bits.
+    #[test]
+    fn lateness_has_no_edge_at_32_bits() {
+        let last = u64::from(u32::MAX);
+        assert_eq!(lateness(Some(1), last, last), Lateness::InTime);
+        assert_eq!(lateness(Some(1), last, last + 1), Lateness::InTime);
+        assert_eq!(lateness(Some(1), last, last + 2), Lateness::Late);
+        assert_eq!(lateness(Some(1), 0, 1 << 32), Lateness::Late);
+        assert_eq!(lateness(Some(65_535), 5, 5 + (1 << 32)), Lateness::Late);
+        assert_eq!(lateness(Some(65_535), 0, u64::MAX), Lateness::Late);
+    }
+
+    /// A TTL of 0 is a blank one, and without a variable header there is none: nothing to count from any entry.
+    #[test]
+    fn a_ttl_of_0_or_an_absent_one_is_no_clock() {
+        for (entry, clock) in [(0, 0), (5, 4), (5, 5), (5, 6), (0, u64::MAX), (u64::MAX, 0), (u64::MAX, u64::MAX)] {
+            assert_eq!(lateness(Some(0), entry, clock), Lateness::NoClock, "entry {entry}, clock {clock}");
+            assert_eq!(lateness(None, entry, clock), Lateness::NoClock, "entry {entry}, clock {clock}");
+        }
     }
 }

@@ -59,10 +59,9 @@ pub struct Order {
 /// What lateness is judged from.
 #[derive(Clone, Copy, Debug)]
 pub struct Timing {
-    pub flags: u8,
-    pub time: u32,
     pub addressed: u8,
     pub ttl: u16,
+    pub entry: u64,
     pub clock: u64,
 }
 

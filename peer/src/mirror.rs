@@ -108,7 +108,7 @@ pub fn qos_join(parts: [u8; QOS_PARTS]) -> Answer {
 
 pub fn lateness(timing: Timing) -> u8 {
     let ttl = (timing.addressed != 0).then_some(timing.ttl);
-    match envelope::lateness(timing.flags, timing.time, ttl, timing.clock) {
+    match envelope::lateness(ttl, timing.entry, timing.clock) {
         Lateness::InTime => IN_TIME,
         Lateness::Late => LATE,
         Lateness::NoClock => NO_CLOCK,

@@ -54,4 +54,15 @@ impl Random {
             _ => self.next() as u32,
         }
     }
+
+    /// A second of an entry or a clock, often at an edge of 32 or of 64 bits, or no farther from it than a TTL is long.
+    pub fn second(&mut self) -> u64 {
+        match self.up_to(5) {
+            0 => self.number().into(),
+            1 => self.pick(&[(1 << 32) - 1, 1 << 32, 1 << 63, u64::MAX - 2, u64::MAX - 1, u64::MAX]),
+            2 => (1 << 32) - 65_536 + self.up_to(131_072) as u64,
+            3 => u64::MAX - self.up_to(65_536) as u64,
+            _ => self.next(),
+        }
+    }
 }

@@ -223,11 +223,10 @@ fn wide(n: u8) -> u64 {
 
 fn late(numbers: &[u64; 16]) -> u64 {
     let kind = morlewen_lateness(
-        one_at(numbers, 2),
-        four_at(numbers, 4),
         one_at(numbers, CHOICE),
-        two_at(numbers, 6),
-        at(numbers, 7),
+        two_at(numbers, 0),
+        at(numbers, 1),
+        at(numbers, 2),
     );
     kind as u64 * 0x1_0000
 }

@@ -1,4 +1,4 @@
--- A number as an operator types it: 1 to 10 decimal digits and nothing else, and no more than the largest that its argument takes.
+-- A number as an operator types it: 1 to 20 decimal digits and nothing else, and no more than the largest that its argument takes.
 -- Laws in proofs/DecimalLaws: how both readings go on by a byte.
 use Prim.Native.Nat.{ℕ, _+_, _-_, _*_}
 use mathlib.Core.Bool.{Bool, true, cond, _&&_}
@@ -18,7 +18,7 @@ allDigits [] = true
 allDigits (b ∷ s) = isDigit b && allDigits s
 
 unfoldable pub wellFormed : List ℕ → Bool
-wellFormed s = leb 1 (length s) && (leb (length s) 10 && allDigits s)
+wellFormed s = leb 1 (length s) && (leb (length s) 20 && allDigits s)
 
 -- the number that n is continued to by further digits
 unfoldable pub continued : ℕ → List ℕ → ℕ
@@ -32,8 +32,12 @@ pub data Parsed : Type 0 where
   parsed : ℕ → Parsed
   refused : Parsed
 
+-- a number that is no more than the largest
+abbrev pub upTo : ℕ → ℕ → Parsed
+upTo most n = cond (leb n most) (parsed n) refused
+
 unfoldable pub decimal : ℕ → List ℕ → Parsed
-decimal most s = cond (wellFormed s && leb (valueOf s) most) (parsed (valueOf s)) refused
+decimal most s = cond (wellFormed s) (upTo most (valueOf s)) refused
 
 -- the code's answer, told in these
 abbrev pub toldDecimal : Decimal → Parsed

@@ -1,18 +1,17 @@
 // A decimal number out of the bytes of an argument.
 // Rests on nothing; what counts as a number is defined in specs/Decimal.
-ghost use mathlib.Core.Bool.{true};
 ghost use mathlib.Core.Path.{_≡_};
-ghost use Prim.Native.Nat.{_-_, _≤_};
-ghost use lib.ListN.{length};
-ghost use Rattle.console.specs.Decimal.{isDigit, allDigits, wellFormed, valueOf, Parses};
+ghost use Prim.Native.Nat.{_+_, _-_, _*_};
+ghost use lib.Dec.{leb};
+ghost use Rattle.console.specs.Decimal.{isDigit, allDigits, wellFormed, valueOf, upTo, toldDecimal, Parses};
 
 pub enum Decimal {
     Number(u64),
     NotANumber,
 }
 
-// The most digits that are taken.
-const LONGEST: usize = 10;
+// The most digits that are taken: the largest number has as many.
+const LONGEST: usize = 20;
 
 pub fn decimal_of(word: &[u8], most: u64) -> Decimal
     ensures { λ r. ⌜ Parses most (now (word .entry)) r ⌝ }
@@ -20,11 +19,7 @@ pub fn decimal_of(word: &[u8], most: u64) -> Decimal
     if !well_formed(word) {
         return Decimal::NotANumber;
     }
-    let n = value_of(word);
-    if n <= most {
-        return Decimal::Number(n);
-    }
-    Decimal::NotANumber
+    value_up_to(word, most)
 }
 
 fn well_formed(word: &[u8]) -> bool
@@ -61,18 +56,31 @@ fn is_digit(byte: u8) -> bool
     byte <= b'9'
 }
 
-// At most ten digits, so the number stays far inside its type.
-fn value_of(word: &[u8]) -> u64
-    requires { ⌜ (length (now word) ≤ 10) × (allDigits (now word) ≡ true) ⌝ }
-    ensures { λ r. ⌜ r ≡ valueOf (now (word .entry)) ⌝ }
+// Digit after digit while the number is no more than the largest, so that it stays inside its type.
+fn value_up_to(word: &[u8], most: u64) -> Decimal
+    ensures { λ r. ⌜ toldDecimal r ≡ upTo most (valueOf (now (word .entry))) ⌝ }
 {
     let mut n = 0;
     let mut i = 0;
     while i < word.len() {
-        n = n * 10 + digit(word[i]);
+        let next = digit(word[i]);
+        if !goes_on(n, next, most) {
+            return Decimal::NotANumber;
+        }
+        n = n * 10 + next;
         i += 1;
     }
-    n
+    Decimal::Number(n)
+}
+
+// By division: the number with one more digit may be past the type.
+fn goes_on(n: u64, next: u64, most: u64) -> bool
+    ensures { λ r. ⌜ r ≡ leb (n * 10 + next) most ⌝ }
+{
+    if most < next {
+        return false;
+    }
+    n <= (most - next) / 10
 }
 
 fn digit(byte: u8) -> u64

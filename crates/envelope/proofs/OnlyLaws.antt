@@ -217,8 +217,8 @@ untold-lateness NoClock = refl
 untold-lateness Late = refl
 untold-lateness InTime = refl
 
-pub only-judges-lateness : (e : Envelope) (clock : ℕ) → Only₁ (JudgesLateness e clock)
-only-judges-lateness e clock = only-by-telling toldLateness untoldLateness untold-lateness (lateness (toldEnvelope e) clock)
+pub only-judges-lateness : (e : Envelope) (entry clock : ℕ) → Only₁ (JudgesLateness e entry clock)
+only-judges-lateness e entry clock = only-by-telling toldLateness untoldLateness untold-lateness (lateness (toldEnvelope e) entry clock)
 
 -- ---- sequence
 

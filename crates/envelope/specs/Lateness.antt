@@ -1,11 +1,10 @@
--- Lateness of a message at a clock in seconds, from its fields. RULES 4.
--- The sum of start and TTL is a whole number: it does not run round.
-use Prim.Native.Nat.{ℕ, _+_}
-use mathlib.Core.Bool.{Bool, cond, not, _||_}
+-- Lateness of a message at a clock, counted from its entry into the messaging infrastructure, both in seconds. RULES 4.
+-- The sum of entry and TTL is a whole number: it does not run round. Each theorem is a type here; proofs in proofs/LatenessLaws.
+use Prim.Native.Nat.{ℕ, _+_, _≤_, _<_}
+use mathlib.Core.Bool.{Bool, cond}
 use mathlib.Core.Path.{_≡_}
 use lib.Dec.{eqb, ltb}
-use Rattle.envelope.specs.Fields.{AddressingFields, absent, present, Fields}
-use Rattle.envelope.specs.Flags.{timeIsAbsolute}
+use Rattle.envelope.specs.Fields.{AddressingFields, absent, present, Span, Fields}
 use Rattle.envelope.specs.Told.{toldEnvelope}
 use Rattle.envelope.specs.declared.fields.Envelope.{Envelope}
 use Rattle.envelope.specs.declared.lateness.Lateness.{Lateness}
@@ -16,18 +15,17 @@ pub data LatenessAnswer : Type 0 where
   late : LatenessAnswer
   inTime : LatenessAnswer
 
--- the clock is past start and TTL together
-abbrev pub lateAfter : ℕ → ℕ → ℕ → Bool
-lateAfter start ttl clock = ltb (start + ttl) clock
+-- the clock is past entry and TTL together
+abbrev pub lateAfter : (entry ttl clock : ℕ) → Bool
+lateAfter entry ttl clock = ltb (entry + ttl) clock
 
--- no answer where the time is 0 or relative, or there is no variable header
-unfoldable pub latenessOf : AddressingFields → ℕ → ℕ → ℕ → LatenessAnswer
-latenessOf absent time flags clock = noClock
-latenessOf (present ttl qos source destination) time flags clock =
-    cond (eqb time 0 || not (timeIsAbsolute flags)) noClock (cond (lateAfter time ttl clock) late inTime)
+-- no answer where there is no variable header, or its TTL is left blank, which is 0
+unfoldable pub latenessOf : AddressingFields → (entry clock : ℕ) → LatenessAnswer
+latenessOf absent entry clock = noClock
+latenessOf (present ttl qos source destination) entry clock = cond (eqb ttl 0) noClock (cond (lateAfter entry ttl clock) late inTime)
 
-abbrev pub lateness : Fields → ℕ → LatenessAnswer
-lateness f clock = latenessOf (f .addressing) (f .header .time) (f .header .flags) clock
+abbrev pub lateness : Fields → (entry clock : ℕ) → LatenessAnswer
+lateness f entry clock = latenessOf (f .addressing) entry clock
 
 abbrev pub toldLateness : Lateness → LatenessAnswer
 toldLateness NoClock = noClock
@@ -35,5 +33,24 @@ toldLateness Late = late
 toldLateness InTime = inTime
 
 -- what `lateness::judge` promises
-abbrev pub JudgesLateness : Envelope → ℕ → Lateness → Type 0
-JudgesLateness e clock r = toldLateness r ≡ lateness (toldEnvelope e) clock
+abbrev pub JudgesLateness : Envelope → (entry clock : ℕ) → Lateness → Type 0
+JudgesLateness e entry clock r = toldLateness r ≡ lateness (toldEnvelope e) entry clock
+
+-- envelopes with one addressing get one answer at an entry and a clock, whatever their time, their flags and all else
+abbrev pub AddressingDecides : Type 0
+AddressingDecides =
+    (d e : Envelope) (entry clock : ℕ) (r s : Lateness) → d .addressing ≡ e .addressing
+    → JudgesLateness d entry clock r → JudgesLateness e entry clock s → r ≡ s
+
+-- once late, late at every later clock
+abbrev pub LateStaysLate : Type 0
+LateStaysLate =
+    (e : Envelope) (entry clock later : ℕ) (s : Lateness) → JudgesLateness e entry clock Late → clock ≤ later
+    → JudgesLateness e entry later s → s ≡ Late
+
+-- with a TTL that is not blank: in time at every clock up to entry + TTL, and at no other
+abbrev pub InTimeUpToEntryAndTtl : Type 0
+InTimeUpToEntryAndTtl =
+    (ttl qos : ℕ) (source destination : Span) (entry clock : ℕ) → 0 < ttl
+    → (clock ≤ entry + ttl → latenessOf (present ttl qos source destination) entry clock ≡ inTime)
+    × (latenessOf (present ttl qos source destination) entry clock ≡ inTime → clock ≤ entry + ttl)

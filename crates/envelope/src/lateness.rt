@@ -1,9 +1,8 @@
-// Whether a message is late, at a clock in seconds.
+// Whether a message is late at a clock, counted from its entry into the messaging infrastructure, both in seconds.
 ghost use mathlib.Core.Path.{_≡_};
 ghost use Rattle.envelope.specs.Lateness.{lateAfter, JudgesLateness};
 use crate::fields::Addressing;
 use crate::fields::Envelope;
-use crate::flags::time_is_absolute;
 
 pub enum Lateness {
     NoClock,
@@ -11,8 +10,8 @@ pub enum Lateness {
     InTime,
 }
 
-pub fn judge(envelope: Envelope, clock: u64) -> Lateness
-    ensures { λ r. ⌜ JudgesLateness envelope clock r ⌝ }
+pub fn judge(envelope: Envelope, entry: u64, clock: u64) -> Lateness
+    ensures { λ r. ⌜ JudgesLateness envelope entry clock r ⌝ }
 {
     let addressing = envelope.addressing;
     match addressing {
@@ -23,13 +22,10 @@ pub fn judge(envelope: Envelope, clock: u64) -> Lateness
             source: _,
             destination: _,
         } => {
-            if envelope.header.time == 0 {
+            if ttl == 0 {
                 return Lateness::NoClock;
             }
-            if !time_is_absolute(envelope.header.flags) {
-                return Lateness::NoClock;
-            }
-            if late_after(envelope.header.time, ttl, clock) {
+            if late_after(entry, ttl, clock) {
                 return Lateness::Late;
             }
             Lateness::InTime
@@ -37,9 +33,12 @@ pub fn judge(envelope: Envelope, clock: u64) -> Lateness
     }
 }
 
-// In 64 bits the sum of a time and a TTL cannot run round.
-fn late_after(start: u32, ttl: u16, clock: u64) -> bool
-    ensures { λ r. ⌜ r ≡ lateAfter start ttl clock ⌝ }
+// By subtraction: the sum of entry and TTL may be past the type.
+fn late_after(entry: u64, ttl: u16, clock: u64) -> bool
+    ensures { λ r. ⌜ r ≡ lateAfter entry ttl clock ⌝ }
 {
-    (start as u64) + (ttl as u64) < clock
+    if clock < entry {
+        return false;
+    }
+    (ttl as u64) < clock - entry
 }

@@ -34,8 +34,8 @@ only-splits-for-c q = only-that _
 pub only-joins-for-c : (f : QosFields) → Only₁ (JoinsForC f)
 only-joins-for-c f = only-that _
 
-pub only-judges-lateness-for-c : (flags time given ttl clock : ℕ) → Only₁ (JudgesLatenessForC flags time given ttl clock)
-only-judges-lateness-for-c flags time given ttl clock = only-that _
+pub only-judges-lateness-for-c : (given ttl entry clock : ℕ) → Only₁ (JudgesLatenessForC given ttl entry clock)
+only-judges-lateness-for-c given ttl entry clock = only-that _
 
 pub only-judges-sequence-for-c : (old new : ℕ) → Only₁ (JudgesSequenceForC old new)
 only-judges-sequence-for-c old new = only-that _

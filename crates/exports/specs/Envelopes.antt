@@ -167,8 +167,8 @@ abbrev pub addressingFor : (given ttl : ℕ) → AddressingFields
 addressingFor given ttl = cond (eqb given 0) absent (present ttl 0 nowhere nowhere)
 
 -- what `morlewen_lateness` promises
-abbrev pub JudgesLatenessForC : (flags time given ttl clock : ℕ) → ℕ → Type 0
-JudgesLatenessForC flags time given ttl clock r = r ≡ latenessNumber (latenessOf (addressingFor given ttl) time flags clock)
+abbrev pub JudgesLatenessForC : (given ttl entry clock : ℕ) → ℕ → Type 0
+JudgesLatenessForC given ttl entry clock r = r ≡ latenessNumber (latenessOf (addressingFor given ttl) entry clock)
 
 -- which of the four, and by how many numbers
 abbrev pub sequenceSlots : SequenceAnswer → Slots

@@ -17,19 +17,12 @@ use envelope::sequence;
 use envelope::sequence::Sequence;
 
 #[no_mangle]
-pub extern "C" fn morlewen_lateness(flags: u8, time: u32, addressed: u8, ttl: u16, clock: u64) -> u8
-    ensures { λ r. ⌜ JudgesLatenessForC flags time addressed ttl clock r ⌝ }
+pub extern "C" fn morlewen_lateness(addressed: u8, ttl: u16, entry: u64, clock: u64) -> u8
+    ensures { λ r. ⌜ JudgesLatenessForC addressed ttl entry clock r ⌝ }
 {
-    let header = Header {
-        message_type: 0,
-        version: 0,
-        flags,
-        number: 0,
-        time,
-    };
     let addressing = addressing_of(addressed, ttl);
-    let judged = Envelope::new(header, addressing, nowhere(), Integrity::None);
-    lateness_number(lateness::judge(judged, clock))
+    let judged = Envelope::new(any_header(), addressing, nowhere(), Integrity::None);
+    lateness_number(lateness::judge(judged, entry, clock))
 }
 
 #[no_mangle]
@@ -58,6 +51,17 @@ fn addressing_of(addressed: u8, ttl: u16) -> Addressing
         qos: 0,
         source: nowhere(),
         destination: nowhere(),
+    }
+}
+
+// Lateness does not look at the header.
+fn any_header() -> Header {
+    Header {
+        message_type: 0,
+        version: 0,
+        flags: 0,
+        number: 0,
+        time: 0,
     }
 }
 

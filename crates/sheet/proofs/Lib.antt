@@ -9,6 +9,7 @@ pub mod FeedCases
 pub mod Demand1
 pub mod Demand2
 pub mod Demand3
+pub mod LateFromEntry
 pub mod Feeding
 pub mod SecondReader
 pub mod JudgeCases

@@ -31,7 +31,7 @@ use Rattle.envelope.specs.declared.fields.Addressing.the-variants.{Absent, Pres
 use Rattle.envelope.specs.declared.fields.Envelope.{Envelope}
 use Rattle.envelope.specs.declared.fields.Header.{Header}
 use Rattle.envelope.specs.declared.fields.Integrity.the-variants.{None}
-use Rattle.envelope.specs.declared.lateness.Lateness.the-variants.{Late, InTime}
+use Rattle.envelope.specs.declared.lateness.Lateness.the-variants.{NoClock, Late, InTime}
 use Rattle.envelope.specs.declared.qos.Joining.the-variants.{Joined, DoesNotFit}
 use Rattle.envelope.specs.declared.reader.Fault.the-variants.{TooShort, WrongVersion}
 use Rattle.envelope.specs.declared.reader.Reading.the-variants.{Accepted, Refused}
@@ -259,28 +259,40 @@ pub join-does-not-refuse-all :
 unfolding joining
 join-does-not-refuse-all kept = let z : _≡_ {A = ℕ} 0 1 = cc in omega arith
 
--- ---- lateness: late at the very second; in time for ever; a clock where there is none
+-- ---- lateness: late at the very second; in time for ever; late with a blank TTL; a sum that runs round; counted from the message's own time; none for a relative time
 
-abbrev timed : ℕ → Envelope
-timed flags =
+abbrev timed : (flags time ttl : ℕ) → Envelope
+timed flags time ttl =
     record {
-      header = record { «message_type» = 6000; version = 1; flags = flags; number = 1; time = 100 };
-      addressing = Present 20 0 (record { place = 21; size = 0 }) (record { place = 22; size = 0 });
+      header = record { «message_type» = 6000; version = 1; flags = flags; number = 1; time = time };
+      addressing = Present ttl 0 (record { place = 21; size = 0 }) (record { place = 22; size = 0 });
       body = record { place = 23; size = 0 };
       integrity = None;
     }
 
-pub not-late-at-the-very-second : JudgesLateness (timed 1) 120 Late → ⊥
+pub not-late-at-the-very-second : JudgesLateness (timed 1 100 20) 100 120 Late → ⊥
 unfolding latenessOf
 not-late-at-the-very-second kept = let z : _≡_ {A = ℕ} 0 1 = cc in omega arith
 
-pub not-in-time-for-ever : JudgesLateness (timed 1) 121 InTime → ⊥
+pub not-in-time-for-ever : JudgesLateness (timed 1 100 20) 100 121 InTime → ⊥
 unfolding latenessOf
 not-in-time-for-ever kept = let z : _≡_ {A = ℕ} 0 1 = cc in omega arith
 
-pub no-clock-for-a-relative-time : JudgesLateness (timed 0) 121 Late → ⊥
+pub no-clock-for-a-blank-ttl : JudgesLateness (timed 1 100 0) 100 101 Late → ⊥
 unfolding latenessOf
-no-clock-for-a-relative-time kept = let z : _≡_ {A = ℕ} 0 1 = cc in omega arith
+no-clock-for-a-blank-ttl kept = let z : _≡_ {A = ℕ} 0 1 = cc in omega arith
+
+pub lateness-does-not-run-round : JudgesLateness (timed 1 100 1) 18446744073709551615 1 Late → ⊥
+unfolding latenessOf
+lateness-does-not-run-round kept = let z : _≡_ {A = ℕ} 0 1 = cc in omega arith
+
+pub lateness-is-not-from-the-message-time : JudgesLateness (timed 1 100 20) 200 210 Late → ⊥
+unfolding latenessOf
+lateness-is-not-from-the-message-time kept = let z : _≡_ {A = ℕ} 0 1 = cc in omega arith
+
+pub a-relative-time-has-a-clock : JudgesLateness (timed 0 0 20) 100 120 NoClock → ⊥
+unfolding latenessOf
+a-relative-time-has-a-clock kept = let z : _≡_ {A = ℕ} 0 1 = cc in omega arith
 
 -- ---- sequence: a distance that does not run round; one that is not signed; the next told as ahead by 1; a number ahead told as behind
 

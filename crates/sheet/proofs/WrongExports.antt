@@ -90,15 +90,23 @@ pub join-for-c-does-not-refuse-all : JoinsForC (qosFor 0 0 0 1 0) 41 → ⊥
 unfolding joining word
 join-for-c-does-not-refuse-all kept = apart 41 (8 * 4294967296) tt kept
 
--- ---- lateness and sequence: never late; a clock that is not there; a repeat for the next; ahead for behind
+-- ---- lateness and sequence: never late; a clock that is not there; a blank TTL that is late; a sum that runs round; a repeat for the next; ahead for behind
 
-pub lateness-for-c-tells-late : JudgesLatenessForC 1 100 1 10 111 0 → ⊥
+pub lateness-for-c-tells-late : JudgesLatenessForC 1 10 100 111 0 → ⊥
 unfolding latenessOf
 lateness-for-c-tells-late kept = apart 0 1 tt kept
 
-pub lateness-for-c-needs-a-variable-header : JudgesLatenessForC 1 100 0 10 0 0 → ⊥
+pub lateness-for-c-needs-a-variable-header : JudgesLatenessForC 0 10 100 0 0 → ⊥
 unfolding latenessOf
 lateness-for-c-needs-a-variable-header kept = apart 0 2 tt kept
+
+pub lateness-for-c-needs-a-ttl : JudgesLatenessForC 1 0 100 101 1 → ⊥
+unfolding latenessOf
+lateness-for-c-needs-a-ttl kept = apart 1 2 tt kept
+
+pub lateness-for-c-does-not-run-round : JudgesLatenessForC 1 1 18446744073709551615 1 1 → ⊥
+unfolding latenessOf
+lateness-for-c-does-not-run-round kept = apart 1 0 tt kept
 
 pub sequence-for-c-tells-the-next : JudgesSequenceForC 4294967295 0 0 → ⊥
 unfolding stepsOn word

@@ -64,9 +64,15 @@ pub record Edges : Type 0 where
       joining (record { serviceRequest = 7; specialHandling = 15; networkPreference = 7; priority = 7; class = 7 }) ≡ joined 65535
   pub special-16 :
       joining (record { serviceRequest = 0; specialHandling = 16; networkPreference = 0; priority = 0; class = 0 }) ≡ qos.refused 41
-  -- time and TTL at their largest: the very second, and the next; the sum has not run round
-  pub very-second : lateAfter 4294967295 65535 4295032830 ≡ false
-  pub next-second : lateAfter 4294967295 65535 4295032831 ≡ true
+  -- the least TTL and the largest: the very second, and the next
+  pub ttl-1-very-second : lateAfter 1700000000 1 1700000001 ≡ false
+  pub ttl-1-next-second : lateAfter 1700000000 1 1700000002 ≡ true
+  pub ttl-65535-very-second : lateAfter 1700000000 65535 1700065535 ≡ false
+  pub ttl-65535-next-second : lateAfter 1700000000 65535 1700065536 ≡ true
+  -- a clock before the entry; a sum past 64 bits, which has not run round
+  pub clock-before-entry : lateAfter 1700000000 1 0 ≡ false
+  pub largest-entry-and-clock : lateAfter 18446744073709551615 1 18446744073709551615 ≡ false
+  pub largest-entry-first-clock : lateAfter 18446744073709551615 1 1 ≡ false
   -- golden files: none, 128 and 129 records, and a byte too many; the stored length
   pub empty : EmptyFile
   pub full : (f : List ℕ) → length f ≡ 65536 → FullFile f

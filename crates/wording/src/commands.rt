@@ -32,19 +32,21 @@ pub const READ: usize = 4;
 
 pub const JUDGE: usize = 5;
 
-pub const SUM: usize = 6;
+pub const LATE: usize = 6;
 
-pub const MAKE: usize = 7;
+pub const SUM: usize = 7;
 
-pub const UNWRAP: usize = 8;
+pub const MAKE: usize = 8;
 
-pub const WRAP: usize = 9;
+pub const UNWRAP: usize = 9;
 
-pub const ACKNOWLEDGE: usize = 10;
+pub const WRAP: usize = 10;
 
-pub const WATCH: usize = 11;
+pub const ACKNOWLEDGE: usize = 11;
 
-pub const HELP: usize = 12;
+pub const WATCH: usize = 12;
+
+pub const HELP: usize = 13;
 
 // A command with its numbers, and the places of the arguments that name its files; 0 where there is none.
 pub struct Command {
@@ -188,6 +190,8 @@ NUMBER 4294967295
 RECORD 4294967295
 COMMID 4294967295
 ACKNOWLEDGED 4294967295
+ENTRY 18446744073709551615
+CLOCK 18446744073709551615
 ",
     )
 }

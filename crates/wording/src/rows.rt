@@ -43,46 +43,48 @@ pub const RULES_OF_SIZES: usize = 19;
 
 pub const RULE_OF_INTEGRITY: usize = 20;
 
-pub const SUM: usize = 21;
+pub const LATENESS: usize = 21;
 
-pub const FRAME: usize = 22;
+pub const SUM: usize = 22;
 
-pub const DATA: usize = 23;
+pub const FRAME: usize = 23;
 
-pub const ACKNOWLEDGMENT: usize = 24;
+pub const DATA: usize = 24;
 
-pub const BAD_FRAME: usize = 25;
+pub const ACKNOWLEDGMENT: usize = 25;
 
-pub const VERSION: usize = 26;
+pub const BAD_FRAME: usize = 26;
 
-pub const ALL_REFUSALS: usize = 27;
+pub const VERSION: usize = 27;
 
-pub const COMMAND: usize = 28;
+pub const ALL_REFUSALS: usize = 28;
 
-pub const DIFFERENT: usize = 29;
+pub const COMMAND: usize = 29;
 
-pub const SIDES: usize = 30;
+pub const DIFFERENT: usize = 30;
 
-pub const PLACE: usize = 31;
+pub const SIDES: usize = 31;
 
-pub const MORE: usize = 32;
+pub const PLACE: usize = 32;
 
-pub const NO_COMMAND: usize = 33;
+pub const MORE: usize = 33;
 
-pub const UNKNOWN_COMMAND: usize = 34;
+pub const NO_COMMAND: usize = 34;
 
-pub const UNKNOWN_OPTION: usize = 35;
+pub const UNKNOWN_COMMAND: usize = 35;
 
-pub const TOO_MANY_WORDS: usize = 36;
+pub const UNKNOWN_OPTION: usize = 36;
 
-pub const TOO_FEW_WORDS: usize = 37;
+pub const TOO_MANY_WORDS: usize = 37;
 
-pub const NOT_QUIET: usize = 38;
+pub const TOO_FEW_WORDS: usize = 38;
 
-pub const ONE_INPUT: usize = 39;
+pub const NOT_QUIET: usize = 39;
 
-pub const LONG_WORD: usize = 40;
+pub const ONE_INPUT: usize = 40;
 
-pub const NOT_A_NUMBER: usize = 41;
+pub const LONG_WORD: usize = 41;
 
-pub const LARGE_FILE: usize = 42;
+pub const NOT_A_NUMBER: usize = 42;
+
+pub const LARGE_FILE: usize = 43;

@@ -110,6 +110,8 @@ rule 6, bytes 21 to 16 + V are two addresses, each at most 64 bytes with its zer
 rule\t6\t{kept|broken|unjudged}_________
 \0rule 7, the integrity field is {zero where the kind is 0|the CRC, the kind being 1}: {kept|broken|not judged}, {the field says $, the kind is #|the field says $, division gives $|it needs at least # byte*, the message has #}
 \0rule\t7\t_{kept|broken|unjudged}_______
+\0{in time, # second* left|late, # second* past|no clock, there is no variable header|no clock, the time to live is 0|in time, ## seconds left}
+\0{in-time\t#|late\t#|no-clock\tabsent|no-clock\tzero|in-time\t##}
 \0$  # byte*
 \0sum\t$\t#
 \0data message, COMMID #, frame of # byte*
@@ -139,7 +141,7 @@ place   golden                            radio                           differ
 \0emp: -q is for check and compare alone\0
 \0emp: standard input, which - names, can be read once\0
 \0emp: a word is too long: it has at most 4096 bytes\0
-\0emp: ^ must be a number from 0 to \0^, in 1 to 10 digits and nothing else
+\0emp: ^ must be a number from 0 to \0^, in 1 to 20 digits and nothing else
 \0emp: '^' has more than 65536 bytes, the most that emp takes\0
 \0",
     )

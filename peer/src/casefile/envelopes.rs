@@ -156,12 +156,11 @@ fn join(words: &mut Words) -> Answer {
 }
 
 pub fn late(words: &mut Words) -> Answer {
-    let flags = words.named("flags", ONE_BYTE)? as u8;
-    let time = words.named("time", FOUR_BYTES)? as u32;
     let ttl = ttl(words)?;
+    let entry = words.named("entry", u64::MAX)?;
     let clock = words.named("clock", u64::MAX)?;
     words.end()?;
-    let answer = match envelope::lateness(flags, time, ttl, clock) {
+    let answer = match envelope::lateness(ttl, entry, clock) {
         Lateness::Late => "late",
         Lateness::InTime => "in time",
         Lateness::NoClock => "no clock",

@@ -106,12 +106,54 @@ fn other_envelope_commands_answer_as_told() {
         ),
         ("qos j: join 7 15 7 7 7", "qos j: 65535"),
         ("qos j: join 7 16 7 7 7", "qos j: refused 41"),
-        ("late a: flags 1 time 5 ttl 5 clock 11", "late a: late"),
-        ("late b: flags 1 time 5 ttl 5 clock 10", "late b: in time"),
-        ("late c: flags 1 time 5 unaddressed clock 18446744073709551615", "late c: no clock"),
         ("sequence r: from 7 to 7", "sequence r: repeat"),
         ("sequence a: from 7 to 9", "sequence a: ahead 2"),
         ("sequence b: from 7 to 6", "sequence b: behind 1"),
+    ]);
+}
+
+#[test]
+fn lateness_is_told_from_the_entry() {
+    let largest = u64::MAX;
+    each(&[
+        ("late a: ttl 5 entry 5 clock 11", "late a: late"),
+        ("late b: ttl 5 entry 5 clock 10", "late b: in time"),
+        ("late at the entry: ttl 5 entry 5 clock 5", "late at the entry: in time"),
+        ("late before it: ttl 5 entry 5 clock 0", "late before it: in time"),
+        ("late zeros in front: ttl 0005 entry 005 clock 0011", "late zeros in front: late"),
+        ("late 32 bits: ttl 1 entry 4294967295 clock 4294967296", "late 32 bits: in time"),
+        (&format!("late by a second: ttl 1 entry {} clock {largest}", largest - 2), "late by a second: late"),
+        (&format!("late just not: ttl 1 entry {} clock {largest}", largest - 1), "late just not: in time"),
+        (&format!("late the largest: ttl 65535 entry {largest} clock {largest}"), "late the largest: in time"),
+        (&format!("late clock 1: ttl 1 entry {largest} clock 1"), "late clock 1: in time"),
+        ("late TTL 0: ttl 0 entry 5 clock 5", "late TTL 0: no clock"),
+        (&format!("late TTL 0, long after: ttl 0 entry 5 clock {largest}"), "late TTL 0, long after: no clock"),
+        (&format!("late none: unaddressed entry {largest} clock 0"), "late none: no clock"),
+        (&format!("late none, long after: unaddressed entry 0 clock {largest}"), "late none, long after: no clock"),
+    ]);
+}
+
+#[test]
+fn late_lines_that_are_not_understood_are_told() {
+    let over = "a number from 0 to 18446744073709551615 expected";
+    each(&[
+        ("late", "line 1, column 5: a name and a colon expected"),
+        // The form that counted from the message's own time.
+        ("late l: flags 1 time 2 ttl 3 clock 4", "line 2, column 9: the word ttl expected"),
+        ("late l: entry 1 ttl 3 clock 4", "line 3, column 9: the word ttl expected"),
+        ("late l: ttl 65536 entry 1 clock 2", "line 4, column 13: a number from 0 to 65535 expected"),
+        ("late l: ttl entry 1 clock 2", "line 5, column 13: a number from 0 to 65535 expected"),
+        ("late l: unaddressed ttl 3 entry 1 clock 2", "line 6, column 21: the word entry expected"),
+        ("late l: unaddressed clock 2", "line 7, column 21: the word entry expected"),
+        ("late l: ttl 3 time 1 clock 2", "line 8, column 15: the word entry expected"),
+        ("late l: ttl 3", "line 9, column 14: the word entry expected"),
+        ("late l: ttl 3 entry 18446744073709551616 clock 2", &format!("line 10, column 21: {over}")),
+        ("late l: ttl 3 entry clock 2", &format!("line 11, column 21: {over}")),
+        ("late l: ttl 3 entry 1 2", "line 12, column 23: the word clock expected"),
+        ("late l: ttl 3 entry 1 ", "line 13, column 23: the word clock expected"),
+        ("late l: ttl 3 entry 1 clock 18446744073709551616", &format!("line 14, column 29: {over}")),
+        ("late l: ttl 3 entry 1 clock -1", &format!("line 15, column 29: {over}")),
+        ("late l: ttl 3 entry 1 clock 2 3", "line 16, column 31: the end of the line expected"),
     ]);
 }
 
@@ -336,8 +378,8 @@ fn each_complaint_has_its_line_and_column() {
         ("qos q: halve 3", "line 11, column 8: the word split expected"),
         ("qos q: join 1 2 3 256 0", "line 12, column 19: a number from 0 to 255 expected"),
         ("qos q: join 1 2 3 4  ", "line 13, column 22: a number from 0 to 255 expected"),
-        ("late l: flags 1 time 2 addressed", "line 14, column 24: the word ttl expected"),
-        ("late l: flags 1 time 2 ttl 3 qos 4", "line 15, column 30: the word clock expected"),
+        ("late l: addressed entry 2", "line 14, column 9: the word ttl expected"),
+        ("late l: ttl 3 qos 4 entry 5", "line 15, column 15: the word entry expected"),
         ("file append 00", "line 16, column 6: the word new expected"),
         ("file", "line 17, column 5: the word new expected"),
         (&format!("{write} 00 room 1"), "line 18, column 90: bytes expected"),

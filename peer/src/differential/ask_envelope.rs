@@ -123,18 +123,12 @@ fn written_from_fields(run: &mut Run, message: &[u8], fields: &[u64; FIELDS]) {
     run.holds("a message written from its fields is the same bytes", same, &|| format!("message {}", hex(message)));
 }
 
-/// Lateness around the moment at which this message's time runs out.
+/// Lateness by this message's TTL, with an entry and a clock that are drawn: its own time is not asked for.
 fn timed(run: &mut Run, fields: &[u64; FIELDS]) {
-    let runs_out = fields[field::TIME] + fields[field::TTL];
-    let clock = run.random.pick(&[runs_out, runs_out + 1, runs_out.saturating_sub(1)]);
-    let timing = Timing {
-        flags: fields[field::FLAGS] as u8,
-        time: fields[field::TIME] as u32,
-        addressed: fields[field::ADDRESSED] as u8,
-        ttl: fields[field::TTL] as u16,
-        clock,
-    };
-    lateness(run, timing);
+    let (addressed, ttl) = (fields[field::ADDRESSED] as u8, fields[field::TTL] as u16);
+    let entry = run.random.second();
+    let clock = run.random.pick(&inputs::clocks(ttl, entry));
+    lateness(run, Timing { addressed, ttl, entry, clock });
 }
 
 /// Everything about one order to a writer; what is written is read back.

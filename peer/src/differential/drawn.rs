@@ -96,11 +96,10 @@ fn spoiled_order(run: &mut Run) {
 
 fn lateness(run: &mut Run) {
     let random = &mut run.random;
-    let (time, ttl) = (random.number(), random.next() as u16);
-    let near = u64::from(time) + u64::from(ttl) + random.up_to(4) as u64;
-    let clock = if random.once_in(3) { random.next() } else { near.saturating_sub(2) };
-    let timing = Timing { flags: random.byte(), time, addressed: random.up_to(2) as u8, ttl, clock };
-    ask_envelope::lateness(run, timing);
+    let (addressed, ttl) = (random.pick(&[0, 1, 1, 1, 1, 1, 2, 0xFF]), random.number() as u16);
+    let (entry, any) = (random.second(), random.second());
+    let clock = if random.once_in(4) { any } else { random.pick(&inputs::clocks(ttl, entry)) };
+    ask_envelope::lateness(run, Timing { addressed, ttl, entry, clock });
 }
 
 fn sequence(run: &mut Run) {

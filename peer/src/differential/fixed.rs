@@ -22,6 +22,7 @@ pub fn short(run: &mut Run) {
     every_short_length(run);
     every_qos(run);
     moments(run);
+    every_ttl(run);
     sequences(run);
     file_lengths(run);
     flipped_bits(run);
@@ -178,18 +179,36 @@ fn every_qos(run: &mut Run) {
     }
 }
 
+/// Entries about the edges of 16, 31, 32, 63 and 64 bits, and as far before each as a TTL can be long.
+fn entries() -> Vec<u64> {
+    let edges = [0, 1 << 16, 1 << 31, 1 << 32, 1 << 63, u64::MAX];
+    let before = edges.map(|edge| edge.saturating_sub(u16::MAX.into()));
+    [edges, before].concat().into_iter().flat_map(inputs::about).collect()
+}
+
 fn moments(run: &mut Run) {
     run.family("lateness at its edges");
-    for time in [0, 1, 2, 1 << 31, u32::MAX - 65_535, u32::MAX - 1, u32::MAX] {
-        for ttl in [0, 1, 120, u16::MAX] {
-            let runs_out = u64::from(time) + u64::from(ttl);
-            let wrapped = u64::from(time.wrapping_add(ttl.into()));
-            for clock in
-                [0, 1, runs_out.wrapping_sub(1), runs_out, runs_out + 1, wrapped, wrapped + 1, 1 << 32, u64::MAX]
-            {
-                for (flags, addressed) in [(0, 0), (0, 1), (1, 0), (1, 1), (1, 0xFF), (0xFE, 1), (0xFF, 2)] {
+    for entry in entries() {
+        for ttl in [0, 1, 2, 120, 256, 1 << 15, u16::MAX - 1, u16::MAX] {
+            for clock in inputs::clocks(ttl, entry) {
+                for addressed in [0, 1, 2, 0x80, 0xFF] {
                     run.input();
-                    ask_envelope::lateness(run, Timing { flags, time, addressed, ttl, clock });
+                    ask_envelope::lateness(run, Timing { addressed, ttl, entry, clock });
+                }
+            }
+        }
+    }
+}
+
+/// Every TTL, with entries from which it runs out about the last second of 32 and of 64 bits.
+fn every_ttl(run: &mut Run) {
+    run.family("every TTL about the last second of 32 and of 64 bits");
+    for ttl in 0..=u16::MAX {
+        run.input();
+        for last in [u32::MAX.into(), u64::MAX] {
+            for entry in inputs::about(last - u64::from(ttl)) {
+                for clock in inputs::clocks(ttl, entry) {
+                    ask_envelope::lateness(run, Timing { addressed: 1, ttl, entry, clock });
                 }
             }
         }

@@ -1,4 +1,4 @@
-//! Inputs: orders for writers, messages, golden files, and damage to each.
+//! Inputs: orders for writers, messages, golden files, and damage to each; and clocks for lateness.
 //! Lengths and numbers lean to the edges, where mistakes are made.
 
 use crate::interface::Order;
@@ -195,6 +195,23 @@ pub fn shaped(random: &mut Random, length: usize, flags: u8, variable: u8) -> Ve
     }
     seal(&mut message);
     message
+}
+
+/// A second, the one before and the next, as far as 64 bits go.
+pub fn about(second: u64) -> [u64; 3] {
+    [second.saturating_sub(1), second, second.saturating_add(1)]
+}
+
+/// Clocks at which a mistake in lateness shows: at both ends; about the entry; about the second at which the TTL runs
+/// out; about where a sum that runs round at 64 or at 32 bits has that second; and about where a difference that is cut
+/// to 16 or to 32 bits is small again.
+pub fn clocks(ttl: u16, entry: u64) -> Vec<u64> {
+    let ttl = u64::from(ttl);
+    let (runs_out, run_round) = (entry.saturating_add(ttl), entry.wrapping_add(ttl));
+    let [cut_16, cut_32] = [1 << 16, 1 << 32].map(|cut| entry.wrapping_add(cut));
+    let mut clocks = [entry, runs_out, run_round, run_round % (1 << 32), cut_16, cut_32].map(about).concat();
+    clocks.extend([0, u64::MAX]);
+    clocks
 }
 
 /// A record that stores this length before these bytes.

@@ -183,21 +183,31 @@ pub fn qos(random: &mut Random) -> Vec<String> {
     ]
 }
 
+/// A line for each answer.
 pub fn lateness(random: &mut Random) -> Vec<String> {
-    let (time, ttl) = (random.number().max(1), random.number() as u16);
-    let last = u64::from(time) + u64::from(ttl);
-    let (clock, by) = (random.number(), random.between(1, 1_000) as u64);
+    let (ttl, entry) = (u64::from(random.number() as u16).max(1), random.second());
+    let after = random.pick(&[1, 1, 1 << 16, 1 << 32]);
+    // An entry from which a clock so long after its last second is still there.
+    let early = entry.min(u64::MAX - ttl - after);
+    let last = early + ttl;
+    // Entries that go past 64 bits with the TTL, and past 32.
+    let [past_64, past_32] = [u64::MAX, u32::MAX.into()].map(|edge| edge - random.up_to(ttl as usize - 1) as u64);
+    let run_round = past_64.wrapping_add(ttl);
     let in_time = vec![
-        format!("late at its last second: flags 1 time {time} ttl {ttl} clock {last}"),
-        format!("late {by} seconds before: flags 1 time {time} ttl {ttl} clock {}", last.saturating_sub(by)),
+        format!("late at its last second: ttl {ttl} entry {early} clock {last}"),
+        format!("late at its entry or before: ttl {ttl} entry {entry} clock {}", random.up_to(entry as usize)),
+        format!("late past 64 bits, the largest clock: ttl {ttl} entry {past_64} clock {}", u64::MAX),
+        format!("late past 64 bits, a small clock: ttl {ttl} entry {past_64} clock {}", run_round + 1),
+        format!("late past 32 bits: ttl {ttl} entry {past_32} clock {}", random.pick(&[past_32, past_32 + ttl])),
+    ];
+    let any = random.second();
+    let clock = random.pick(&[entry, entry.saturating_add(1), any]);
+    let no_clock = vec![
+        format!("late a TTL of 0: ttl 0 entry {entry} clock {clock}"),
+        format!("late no variable header: unaddressed entry {entry} clock {clock}"),
     ];
     let mut lines =
-        vec![format!("late one second after: flags {} time {time} ttl {ttl} clock {}", random.byte() | 1, last + 1)];
-    let no_clock = vec![
-        format!("late relative time: flags {} time {time} ttl {ttl} clock {clock}", random.byte() & !1),
-        format!("late no time: flags 1 time 0 ttl {ttl} clock {clock}"),
-        format!("late no variable header: flags 1 time {time} unaddressed clock {}", random.next()),
-    ];
+        vec![format!("late {after} seconds after its last: ttl {ttl} entry {early} clock {}", last + after)];
     lines.extend(some(random, 1, in_time));
     lines.extend(some(random, 1, no_clock));
     lines

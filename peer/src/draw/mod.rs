@@ -138,7 +138,7 @@ mod tests {
         ("write", ": wrote |: refused 11 [|: refused 12 [|: refused 14 [|: refused 15 ["),
         ("rewrite", ": wrote |: refused 15 [|: unread "),
         ("qos", " does not fit: refused 41|one bit: |numbers that fit: "),
-        ("late", ": late|: in time|: no clock"),
+        ("late", " seconds after its last: late|: in time|: no clock"),
         ("sequence", " repeat| next| ahead | behind 2147483648"),
         ("file:", " 0 bytes| 512 bytes| 1024 bytes| 65536 bytes| 66048 bytes"),
         ("check", ": records 0|: records 3|record 0 refused 21 0|record 1 refused 23 0"),
@@ -176,6 +176,30 @@ mod tests {
                     assert!(met, "seed {seed}: {command} {text}");
                 }
             }
+        }
+    }
+
+    /// What a drawn `late` line whose name holds this must be answered.
+    const LATENESS: [(&str, &str); 7] = [
+        (" seconds after its last:", " late"),
+        (" at its last second:", " in time"),
+        (" at its entry or before:", " in time"),
+        (" past 64 bits, ", " in time"),
+        (" past 32 bits:", " in time"),
+        (" a TTL of 0:", " no clock"),
+        (" no variable header:", " no clock"),
+    ];
+
+    #[test]
+    fn each_late_line_is_answered_as_it_is_named() {
+        let mut random = Random::new(5);
+        let lines: Vec<String> = (0..500).flat_map(|_| envelope_lines::lateness(&mut random)).collect();
+        let printed = String::from_utf8(run(lines.join("\n").as_bytes())).expect("what is printed is text");
+        assert_eq!(printed.lines().count(), lines.len());
+        for (name, answer) in LATENESS {
+            let told: Vec<&str> = printed.lines().filter(|line| line.contains(name)).collect();
+            assert!(told.len() > 50, "{} lines{name}", told.len());
+            assert!(told.iter().all(|line| line.ends_with(&format!(":{answer}"))), "{name}{answer}");
         }
     }
 

@@ -24,7 +24,7 @@ pub fn words(random: &mut Random) -> Vec<String> {
     let spaces = " ".repeat(random.up_to(3));
     let (number, other) = (random.number(), random.pick(&["x", "Type", "now", "0", "''"]));
     let mut lines = vec![
-        format!("late neither unaddressed nor ttl: flags 1 time {number} {other} clock 3"),
+        format!("late neither unaddressed nor ttl: {other} {} entry {number} clock 3", random.byte()),
         format!("qos neither split nor join: {other} {}", random.byte()),
         if random.once_in(2) { format!("file {other} 00") } else { format!("file{spaces}") },
     ];
@@ -33,6 +33,8 @@ pub fn words(random: &mut Random) -> Vec<String> {
         format!("rewrite nothing behind the room: room {}{spaces}", random.up_to(99)),
         format!("compare no message: record 0 list {number} 2*{}{spaces}", random.up_to(20)),
         format!("sequence no second number: from {number} {other} {number}"),
+        format!("late the clock before the entry: ttl 1 clock {number} entry 1"),
+        format!("late nothing behind the entry: unaddressed entry {number}{spaces}"),
         format!("wrap no COMMID: room 600 of {number}"),
         format!("acknowledge the room before the other COMMID: commid {number} room 17 of 1"),
     ];
@@ -61,6 +63,8 @@ pub fn numbers(random: &mut Random) -> Vec<String> {
     let others = vec![
         format!("step not a number that fits: at {}", not_a_number(random)),
         format!("qos a QoS too large: split 6553{}", random.between(6, 9)),
+        format!("late a TTL too large: ttl 6553{} entry 1 clock 2", random.between(6, 9)),
+        format!("late an entry not a number that fits: ttl 1 entry {} clock 2", not_a_number(random)),
         format!("make a room too large: room {} of 00", 1_025 + over),
         format!("sequence a number too large: from {} to 429496729{}", random.number(), random.between(6, 9)),
         format!("entry no number: at{}", " ".repeat(random.up_to(3))),
@@ -103,6 +107,7 @@ pub fn left_over(random: &mut Random) -> Vec<String> {
     let lines = vec![
         format!("{command} a word left over:  {word}"),
         format!("qos a sixth number: join 1 2 3 4 5 {}", random.byte()),
+        format!("late a word behind the clock: ttl 1 entry 2 clock 3 {word}"),
         format!("file new {word}"),
         format!("flips two records: record 0 {word}"),
         format!("acknowledge a word behind the room: commid 1 of 2 room 17 {word}"),

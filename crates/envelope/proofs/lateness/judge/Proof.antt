@@ -1,6 +1,5 @@
 -- `lateness::judge` takes the definition's cases in its order.
-use mathlib.Core.Bool.{not}
-use mathlib.Core.Path.{ap, sym, _∙_}
+use mathlib.Core.Path.{sym, _∙_}
 use borrow.Author.Needs.{needs}
 use borrow.Author.Tests.{eq-eqb, ne-eqb}
 use Rattle.envelope.specs.Lateness.{latenessOf}
@@ -15,31 +14,24 @@ enum-known-addressing c = search needs
 
 returns : tie.Need-returns
 unfolding latenessOf
-returns c = rw (c .before .before .before .addressing .given .1, eq-eqb _ _ (c .if1 .taken))
-
-time-is-absolute-requires : tie.Need-time-is-absolute-requires
-time-is-absolute-requires c κs = search needs
-
-returns-2 : tie.Need-returns-2
-unfolding latenessOf
-returns-2 c = rw (c .before .before .before .before .before .addressing .given .1, ne-eqb _ _ (c .before .before .if1 .left), ap not (sym (c .before .time-is-absolute .ensures)) ∙ c .if2 .taken)
+returns c = rw (c .before .before .addressing .given .1, eq-eqb _ _ (c .if1 .taken))
 
 late-after-requires : tie.Need-late-after-requires
 late-after-requires c κs = search needs
 
+returns-2 : tie.Need-returns-2
+unfolding latenessOf
+returns-2 c =
+    rw (c .before .before .before .before .addressing .given .1, ne-eqb _ _ (c .before .before .if1 .left), sym (c .before .late-after .ensures) ∙ c .if2 .taken)
+
 returns-3 : tie.Need-returns-3
 unfolding latenessOf
-returns-3 c =
-    rw (c .before .before .before .before .before .before .before .addressing .given .1, ne-eqb _ _ (c .before .before .before .before .if1 .left), ap not (sym (c .before .before .before .time-is-absolute .ensures)) ∙ c .before .before .if2 .left, sym (c .before .late-after .ensures) ∙ c .if3 .taken)
+returns-3 c = rw (c .enum-told .given .1)
 
 returns-4 : tie.Need-returns-4
 unfolding latenessOf
-returns-4 c = rw (c .enum-told .given .1)
-
-returns-5 : tie.Need-returns-5
-unfolding latenessOf
-returns-5 c =
-    rw (c .before .before .before .before .before .before .before .addressing .given .1, ne-eqb _ _ (c .before .before .before .before .if1 .left), ap not (sym (c .before .before .before .time-is-absolute .ensures)) ∙ c .before .before .if2 .left, sym (c .before .late-after .ensures) ∙ c .if3 .left)
+returns-4 c =
+    rw (c .before .before .before .before .addressing .given .1, ne-eqb _ _ (c .before .before .if1 .left), sym (c .before .late-after .ensures) ∙ c .if2 .left)
 
 pub judge-spec : {M : Type 1} → statement M
 judge-spec =
@@ -48,9 +40,7 @@ judge-spec =
     enum-told
     enum-known-addressing
     returns
-    time-is-absolute-requires
-    returns-2
     late-after-requires
+    returns-2
     returns-3
-    returns-4
-    returns-5)
+    returns-4)

@@ -1,4 +1,4 @@
--- `timing::morlewen_lateness`: the promise of `lateness::judge`, of an envelope with this time, these flags and this TTL.
+-- `timing::morlewen_lateness`: the promise of `lateness::judge`, of an envelope with this TTL.
 use mathlib.Core.Path.{ap, _∙_}
 use borrow.Author.Needs.{needs}
 use Rattle.envelope.specs.Fields.{AddressingFields}
@@ -11,6 +11,9 @@ use Rattle.exports.proofs.timing.morlewen_lateness.Tie as tie
 
 addressing-of-requires : tie.Need-addressing-of-requires
 addressing-of-requires c κs = search needs
+
+any-header-requires : tie.Need-any-header-requires
+any-header-requires c κs = search needs
 
 nowhere-requires : tie.Need-nowhere-requires
 nowhere-requires c κs = search needs
@@ -26,18 +29,19 @@ lateness-number-requires c κs = search needs
 
 returns : tie.Need-returns
 returns c =
-    let start = c .before .before .before .before .before .args in
+    let start = c .before .before .before .before .before .before .args in
     c .lateness-number .ensures
     ∙ ap latenessNumber
     (c .before .judge .ensures
-    ∙ ap (λ (e : Envelope). lateness (toldEnvelope e) (start .clock)) (c .before .before .new .ensures)
-    ∙ ap (λ (a : AddressingFields). latenessOf a (start .time) (start .flags) (start .clock)) (c .before .before .before .before .addressing-of .ensures))
+    ∙ ap (λ (e : Envelope). lateness (toldEnvelope e) (start .entry) (start .clock)) (c .before .before .new .ensures)
+    ∙ ap (λ (a : AddressingFields). latenessOf a (start .entry) (start .clock)) (c .before .before .before .before .before .addressing-of .ensures))
 
 pub morlewen-lateness-spec : {M : Type 1} → statement M
 morlewen-lateness-spec =
     tie.close
     (tie.spec
     addressing-of-requires
+    any-header-requires
     nowhere-requires
     new-requires
     judge-requires
