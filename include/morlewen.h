@@ -163,9 +163,10 @@ enum { MORLEWEN_IN_TIME = 0, MORLEWEN_LATE = 1, MORLEWEN_NO_CLOCK = 2 };
 
 /* Whether a message is late at a clock in seconds, counted from the second at which it entered the messaging infrastructure:
  * late if the clock is past entry + TTL, a whole number that does not run round, and else in time; no answer
- * (MORLEWEN_NO_CLOCK) if `addressed` is 0 or the TTL is 0. `addressed` and `ttl` are as morlewen_read gives them; entry and
- * clock are any two numbers, counted from one moment. The message's own time and its format do not matter. Never refused. */
-uint8_t morlewen_lateness(uint8_t addressed, uint16_t ttl, uint64_t entry, uint64_t clock);
+ * (MORLEWEN_NO_CLOCK) if `addressed` is 0 or the TTL is 0. `addressed` and `ttl` are as morlewen_read gives them, any `addressed`
+ * but 0 being one; entry and clock are any two numbers, counted from one moment, and a clock before the entry is in time. The
+ * message's own time and its format do not matter. Never refused. */
+uint8_t morlewen_lateness_from_entry(uint8_t addressed, uint16_t ttl, uint64_t entry, uint64_t clock);
 
 /* From an old message number to a new one: new minus old, as a signed number. The numbers run round. */
 int32_t morlewen_distance(uint32_t old_number, uint32_t new_number);

@@ -29,7 +29,7 @@ extern "C" {
     fn morlewen_rewrite(bytes: *const u8, length: usize, buffer: *mut u8, room: usize) -> u64;
     fn morlewen_qos_split(qos: u16, parts: *mut u8);
     fn morlewen_qos_join(service: u8, handling: u8, network: u8, priority: u8, class: u8) -> u64;
-    fn morlewen_lateness(addressed: u8, ttl: u16, entry: u64, clock: u64) -> u8;
+    fn morlewen_lateness_from_entry(addressed: u8, ttl: u16, entry: u64, clock: u64) -> u8;
     fn morlewen_distance(old: u32, new: u32) -> i32;
     fn morlewen_sequence(old: u32, new: u32) -> u64;
     fn morlewen_judge(bytes: *const u8, length: usize, verdicts: *mut u8) -> u64;
@@ -116,7 +116,7 @@ pub fn qos_join(parts: [u8; QOS_PARTS]) -> Answer {
 
 pub fn lateness(timing: Timing) -> u8 {
     // SAFETY: numbers only.
-    unsafe { morlewen_lateness(timing.addressed, timing.ttl, timing.entry, timing.clock) }
+    unsafe { morlewen_lateness_from_entry(timing.addressed, timing.ttl, timing.entry, timing.clock) }
 }
 
 pub fn distance(old: u32, new: u32) -> i32 {

@@ -26,7 +26,7 @@ use exports::goldens::morlewen_make;
 use exports::qos::morlewen_qos_join;
 use exports::qos::morlewen_qos_split;
 use exports::sums::morlewen_crc;
-use exports::timing::morlewen_lateness;
+use exports::timing::morlewen_lateness_from_entry;
 use exports::timing::morlewen_sequence;
 use exports::verdicts::RULES;
 use exports::verdicts::morlewen_judge;
@@ -222,7 +222,7 @@ fn wide(n: u8) -> u64 {
 }
 
 fn late(numbers: &[u64; 16]) -> u64 {
-    let kind = morlewen_lateness(
+    let kind = morlewen_lateness_from_entry(
         one_at(numbers, CHOICE),
         two_at(numbers, 0),
         at(numbers, 1),

@@ -1,4 +1,4 @@
--- How `allDigits` and `continued` go on by a byte of what is left, and that a number does not get less by further digits.
+-- How `allDigits` and `continued` go on by a byte of what is left, that a number does not get less by further digits, and the largest compared by division.
 use Prim.Native.Nat.{ℕ, _+_, _-_, _*_, _/_, _≤_, _<_}
 use mathlib.Core.Bool.{Bool, true, false, _&&_}
 use mathlib.Core.List.{List, [], _∷_}

@@ -27,11 +27,12 @@ const IN_TIME_FOR_LONG: u64 = 4;
 
 const TEN: u64 = 10;
 
-// What is told: which part of the choice, and its seconds, of which the last digit may stand apart.
+// What is told: which part of the choice, its seconds, of which the last digit may stand apart, and whether the clock is before the entry.
 struct Seconds {
     part: u64,
     seconds: u64,
     last: u64,
+    before: bool,
 }
 
 pub fn late_message(manner: Manner, message: &[u8], entry: u64, clock: u64) -> Status {
@@ -57,13 +58,13 @@ fn tell_lateness(
         }
         Lateness::Late => {
             let past = wrapping_sub_u64(wrapping_sub_u64(clock, entry), ttl);
-            tell_seconds(manner, Status::Refused, few(LATE, past), message)
+            tell_seconds(manner, Status::Refused, few(LATE, past, false), message)
         }
         Lateness::NoClock => {
             tell_seconds(
                 manner,
                 Status::Refused,
-                few(reason_of(addressing), 0),
+                few(reason_of(addressing), 0, false),
                 message,
             )
         }
@@ -90,11 +91,12 @@ fn reason_of(addressing: Addressing) -> u64 {
     }
 }
 
-fn few(part: u64, seconds: u64) -> Seconds {
+fn few(part: u64, seconds: u64, before: bool) -> Seconds {
     Seconds {
         part,
         seconds,
         last: 0,
+        before,
     }
 }
 
@@ -102,10 +104,10 @@ fn few(part: u64, seconds: u64) -> Seconds {
 fn left_of(entry: u64, ttl: u64, clock: u64) -> Seconds {
     let left = wrapping_sub_u64(wrapping_add_u64(entry, ttl), clock);
     if entry <= clock {
-        return few(IN_TIME, left);
+        return few(IN_TIME, left, false);
     }
     if ttl <= left {
-        return few(IN_TIME, left);
+        return few(IN_TIME, left, true);
     }
     many(entry - clock, ttl)
 }
@@ -116,6 +118,7 @@ fn many(before: u64, ttl: u64) -> Seconds {
         part: IN_TIME_FOR_LONG,
         seconds: before / TEN + ttl / TEN + ones / TEN,
         last: ones % TEN,
+        before: true,
     }
 }
 
@@ -125,7 +128,14 @@ fn tell_seconds(manner: Manner, status: Status, told: Seconds, message: &[u8]) -
         manner,
         status,
         rows::LATENESS,
-        &[told.part, seconds, seconds, seconds, told.last],
+        &[
+            told.part,
+            seconds,
+            seconds,
+            seconds,
+            told.last,
+            told.before as u64,
+        ],
         message,
     )
 }

@@ -44,7 +44,7 @@ find GOLDEN TYPE NUMBER\tthe first record of that type and number, and how many 
 compare GOLDEN RECORD RADIO\ta record beside the radio's message: same, or where the two differ\tsame LENGTH, or different TOTAL and then place PLACE GOLDEN RADIO FIELD for each place below 512, or refused REFUSAL READING
 read MESSAGE\tevery field of a message, or its refusal\taccepted LENGTH TYPE VERSION FLAGS DATA-LENGTH NUMBER TIME VARIABLE-SIZE TTL QOS SOURCE DESTINATION BODY-PLACE INTEGRITY KIND, or refused REFUSAL READING
 judge MESSAGE\tevery rule of reading by itself: kept, broken or not judged, with the numbers found; then what read says\trule RULE VERDICT for each rule, kept, broken or unjudged, and then accepted LENGTH, or refused REFUSAL READING
-late MESSAGE ENTRY CLOCK\tof a message that entered the messaging infrastructure at the second ENTRY, whether it is late at the second CLOCK: in time with the seconds left, late with the seconds past, or no clock\tin-time SECONDS, late SECONDS, no-clock absent without a variable header, no-clock zero with a time to live of 0, or refused REFUSAL READING
+late MESSAGE ENTRY CLOCK\twhether a message that entered the messaging infrastructure at second ENTRY is late at second CLOCK, and by how much\tin-time SECONDS, late SECONDS, no-clock REASON, which is absent without a variable header and zero with a time to live of 0, or refused REFUSAL READING
 sum FILE\tthe CRC of all bytes of a file\tsum CRC LENGTH
 make MESSAGE\tthe record of 512 bytes that holds a message, to standard output\tthe record, or on standard error refused REFUSAL READING
 unwrap FRAME\ta frame: what it is, its COMMIDs, and its message as read tells it; of a capture, which is frames end to end, a line for each, up to the first refused\tdata FRAME PLACE COMMID TYPE NUMBER LENGTH, acknowledgment FRAME PLACE COMMID ACKNOWLEDGED, or refused FRAME PLACE REFUSAL READING
@@ -174,7 +174,7 @@ fn name_of(command: Command) -> Name {
     }
 }
 
-// The remainder loses nothing: the table of numbers has none larger.
+// The remainder loses nothing: the table of numbers has no NUMBER, COMMID or ACKNOWLEDGED that is larger.
 fn narrow(n: u64) -> u32 {
     (n % 4_294_967_296) as u32
 }

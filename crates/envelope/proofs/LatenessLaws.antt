@@ -7,10 +7,10 @@ use native.Mathlib.Omega.{arith}
 use borrow.Author.Tests.{ltb-true, ltb-false, lt-ltb, le-ltb, ne-eqb}
 use lib.Dec.{eqb, ltb}
 use Rattle.envelope.specs.Fields.{AddressingFields, absent, present}
-use Rattle.envelope.specs.Lateness.{noClock, late, inTime, lateAfter, latenessOf, AddressingDecides, LateStaysLate, InTimeUpToEntryAndTtl}
+use Rattle.envelope.specs.Lateness.{noClock, late, inTime, lateAfter, latenessOf, toldLateness, AddressingDecides, LateStaysLate, InTimeUpToEntryAndTtl}
 use Rattle.envelope.specs.Told.{toldAddressing}
 use Rattle.envelope.specs.declared.fields.Addressing.{Addressing}
-use Rattle.envelope.specs.declared.lateness.Lateness.the-variants.{Late}
+use Rattle.envelope.specs.declared.lateness.Lateness.the-variants.{Late, InTime}
 use Rattle.envelope.proofs.OnlyLaws.{only-judges-lateness}
 
 -- a clock that is not before the entry is past entry and TTL together exactly where what is between the two is more than the TTL
@@ -49,7 +49,8 @@ late-stays-late e entry clock later s first h second =
 
 pub in-time-up-to-entry-and-ttl : InTimeUpToEntryAndTtl
 unfolding latenessOf
-in-time-up-to-entry-and-ttl ttl qos source destination entry clock some = (
-  λ h. rw (ne-eqb ttl 0 (λ z. omega (arith, z, some)), le-ltb (entry + ttl) clock h),
-  λ e. ltb-false (entry + ttl) clock (in-time-means (eqb ttl 0) (lateAfter entry ttl clock) e),
-)
+in-time-up-to-entry-and-ttl e ttl qos source destination entry clock r held some kept =
+    let there = ap (λ (a : Addressing). latenessOf (toldAddressing a) entry clock) held in (
+      λ h. only-judges-lateness e entry clock r InTime kept (sym (there ∙ rw (ne-eqb ttl 0 (λ z. omega (arith, z, some)), le-ltb (entry + ttl) clock h))),
+      λ i. ltb-false (entry + ttl) clock (in-time-means (eqb ttl 0) (lateAfter entry ttl clock) (sym there ∙ sym kept ∙ ap toldLateness i)),
+    )

@@ -4,9 +4,11 @@ use Prim.Native.Nat.{ℕ, _+_, _≤_, _<_}
 use mathlib.Core.Bool.{Bool, cond}
 use mathlib.Core.Path.{_≡_}
 use lib.Dec.{eqb, ltb}
-use Rattle.envelope.specs.Fields.{AddressingFields, absent, present, Span, Fields}
+use Rattle.envelope.specs.Fields.{AddressingFields, absent, present, Fields}
 use Rattle.envelope.specs.Told.{toldEnvelope}
+use Rattle.envelope.specs.declared.fields.Addressing.the-variants.{Present}
 use Rattle.envelope.specs.declared.fields.Envelope.{Envelope}
+use Rattle.envelope.specs.declared.fields.Part.{Part}
 use Rattle.envelope.specs.declared.lateness.Lateness.{Lateness}
 use Rattle.envelope.specs.declared.lateness.Lateness.the-variants.{NoClock, Late, InTime}
 
@@ -51,6 +53,6 @@ LateStaysLate =
 -- with a TTL that is not blank: in time at every clock up to entry + TTL, and at no other
 abbrev pub InTimeUpToEntryAndTtl : Type 0
 InTimeUpToEntryAndTtl =
-    (ttl qos : ℕ) (source destination : Span) (entry clock : ℕ) → 0 < ttl
-    → (clock ≤ entry + ttl → latenessOf (present ttl qos source destination) entry clock ≡ inTime)
-    × (latenessOf (present ttl qos source destination) entry clock ≡ inTime → clock ≤ entry + ttl)
+    (e : Envelope) (ttl qos : ℕ) (source destination : Part) (entry clock : ℕ) (r : Lateness)
+    → e .addressing ≡ Present ttl qos source destination → 0 < ttl → JudgesLateness e entry clock r
+    → (clock ≤ entry + ttl → r ≡ InTime) × (r ≡ InTime → clock ≤ entry + ttl)

@@ -166,7 +166,7 @@ nowhere = record { place = 0; size = 0 }
 abbrev pub addressingFor : (given ttl : ℕ) → AddressingFields
 addressingFor given ttl = cond (eqb given 0) absent (present ttl 0 nowhere nowhere)
 
--- what `morlewen_lateness` promises
+-- what `morlewen_lateness_from_entry` promises
 abbrev pub JudgesLatenessForC : (given ttl entry clock : ℕ) → ℕ → Type 0
 JudgesLatenessForC given ttl entry clock r = r ≡ latenessNumber (latenessOf (addressingFor given ttl) entry clock)
 

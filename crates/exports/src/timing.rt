@@ -17,7 +17,12 @@ use envelope::sequence;
 use envelope::sequence::Sequence;
 
 #[no_mangle]
-pub extern "C" fn morlewen_lateness(addressed: u8, ttl: u16, entry: u64, clock: u64) -> u8
+pub extern "C" fn morlewen_lateness_from_entry(
+    addressed: u8,
+    ttl: u16,
+    entry: u64,
+    clock: u64,
+) -> u8
     ensures { λ r. ⌜ JudgesLatenessForC addressed ttl entry clock r ⌝ }
 {
     let addressing = addressing_of(addressed, ttl);

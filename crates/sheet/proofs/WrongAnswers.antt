@@ -259,7 +259,7 @@ pub join-does-not-refuse-all :
 unfolding joining
 join-does-not-refuse-all kept = let z : _≡_ {A = ℕ} 0 1 = cc in omega arith
 
--- ---- lateness: late at the very second; in time for ever; late with a blank TTL; a sum that runs round; counted from the message's own time; none for a relative time
+-- ---- lateness: late at the very second; in time for ever; late with a blank TTL; in time without a variable header; a sum that runs round; counted from the message's own time; no clock for a time that is relative and 0
 
 abbrev timed : (flags time ttl : ℕ) → Envelope
 timed flags time ttl =
@@ -281,6 +281,11 @@ not-in-time-for-ever kept = let z : _≡_ {A = ℕ} 0 1 = cc in omega arith
 pub no-clock-for-a-blank-ttl : JudgesLateness (timed 1 100 0) 100 101 Late → ⊥
 unfolding latenessOf
 no-clock-for-a-blank-ttl kept = let z : _≡_ {A = ℕ} 0 1 = cc in omega arith
+
+pub no-clock-without-a-variable-header :
+    JudgesLateness (record { header = headerM; addressing = Absent; body = record { place = 17; size = 0 }; integrity = None }) 100 101 InTime → ⊥
+unfolding latenessOf
+no-clock-without-a-variable-header kept = let z : _≡_ {A = ℕ} 0 1 = cc in omega arith
 
 pub lateness-does-not-run-round : JudgesLateness (timed 1 100 1) 18446744073709551615 1 Late → ⊥
 unfolding latenessOf

@@ -64,7 +64,7 @@ pub record Edges : Type 0 where
       joining (record { serviceRequest = 7; specialHandling = 15; networkPreference = 7; priority = 7; class = 7 }) ≡ joined 65535
   pub special-16 :
       joining (record { serviceRequest = 0; specialHandling = 16; networkPreference = 0; priority = 0; class = 0 }) ≡ qos.refused 41
-  -- the least TTL and the largest: the very second, and the next
+  -- the least TTL that is not blank, and the largest: the very second, and the next
   pub ttl-1-very-second : lateAfter 1700000000 1 1700000001 ≡ false
   pub ttl-1-next-second : lateAfter 1700000000 1 1700000002 ≡ true
   pub ttl-65535-very-second : lateAfter 1700000000 65535 1700065535 ≡ false

@@ -110,8 +110,8 @@ rule 6, bytes 21 to 16 + V are two addresses, each at most 64 bytes with its zer
 rule\t6\t{kept|broken|unjudged}_________
 \0rule 7, the integrity field is {zero where the kind is 0|the CRC, the kind being 1}: {kept|broken|not judged}, {the field says $, the kind is #|the field says $, division gives $|it needs at least # byte*, the message has #}
 \0rule\t7\t_{kept|broken|unjudged}_______
-\0{in time, # second* left|late, # second* past|no clock, there is no variable header|no clock, the time to live is 0|in time, ## seconds left}
-\0{in-time\t#|late\t#|no-clock\tabsent|no-clock\tzero|in-time\t##}
+\0{in time, # second* left|late, # second* past|no clock, there is no variable header|no clock, the time to live is 0|in time, ## seconds left}{|; the clock is before the entry}
+\0{in-time\t#|late\t#|no-clock\tabsent|no-clock\tzero|in-time\t##}_
 \0$  # byte*
 \0sum\t$\t#
 \0data message, COMMID #, frame of # byte*

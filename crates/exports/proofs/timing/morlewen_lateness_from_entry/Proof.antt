@@ -1,4 +1,4 @@
--- `timing::morlewen_lateness`: the promise of `lateness::judge`, of an envelope with this TTL.
+-- `timing::morlewen_lateness_from_entry`: the promise of `lateness::judge`, of an envelope with this TTL.
 use mathlib.Core.Path.{ap, _∙_}
 use borrow.Author.Needs.{needs}
 use Rattle.envelope.specs.Fields.{AddressingFields}
@@ -6,8 +6,8 @@ use Rattle.envelope.specs.Lateness.{lateness, latenessOf}
 use Rattle.envelope.specs.Told.{toldEnvelope}
 use Rattle.envelope.specs.declared.fields.Envelope.{Envelope}
 use Rattle.exports.specs.Envelopes.{latenessNumber}
-use Rattle.exports.proofs.timing.morlewen_lateness.Statement.{statement}
-use Rattle.exports.proofs.timing.morlewen_lateness.Tie as tie
+use Rattle.exports.proofs.timing.morlewen_lateness_from_entry.Statement.{statement}
+use Rattle.exports.proofs.timing.morlewen_lateness_from_entry.Tie as tie
 
 addressing-of-requires : tie.Need-addressing-of-requires
 addressing-of-requires c κs = search needs
@@ -36,8 +36,8 @@ returns c =
     ∙ ap (λ (e : Envelope). lateness (toldEnvelope e) (start .entry) (start .clock)) (c .before .before .new .ensures)
     ∙ ap (λ (a : AddressingFields). latenessOf a (start .entry) (start .clock)) (c .before .before .before .before .before .addressing-of .ensures))
 
-pub morlewen-lateness-spec : {M : Type 1} → statement M
-morlewen-lateness-spec =
+pub morlewen-lateness-from-entry-spec : {M : Type 1} → statement M
+morlewen-lateness-from-entry-spec =
     tie.close
     (tie.spec
     addressing-of-requires
