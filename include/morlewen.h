@@ -15,11 +15,17 @@
  * THE ANSWER. A function that can refuse, has two things to tell, or tells a size returns one 64-bit number of four slots;
  * morlewen_frame_first alone returns a plain size, which may be larger than a slot.
  *
- *   bits  0-7   number    0: done. Otherwise the refusal, by the numbers below.
- *   bits  8-15  reading   with 25, 31, 34 and 67, and from morlewen_judge, the number (1-7) that reading gives; otherwise 0.
+ *   bits  0-7   number    0: done. Otherwise the refusal, by the numbers below. Look here first: what the others tell goes by it.
+ *   bits  8-15  reading   with 25, 31, 34 and 67, and from the judge's two functions, the number (1-7) that reading gives; otherwise 0.
  *   bits 16-31  count     a number of records, or what else a function says; otherwise 0.
  *   bits 32-63  value     done: a length, a total, or what else a function says; otherwise 0.
- *                         refused: kept for a place in the message; 0 in this version.
+ *                         refused by reading, 1 to 7, or passed on by 25, 31, 34 and 67: the place in the message; otherwise 0.
+ *
+ * THE PLACE. What the broken rule of reading names, counted from the first byte of the message: with 1 how many bytes it has; with 2
+ * place 0, the header version; with 3 place 4, the flags; with 4 place 16, the variable header's size, V; with 5 place 5, the data
+ * length, D; with 6 place 21, the first address; with 7 the first byte of the integrity field, 17 + V + D, which is 4 before the end.
+ * Every place but that of 1 lies inside the message. A record's message begins 2 bytes behind the first of its 512, and
+ * a frame's at MORLEWEN_FRAME_BODY.
  *
  * A refusal writes nothing: every buffer, array and list that was lent holds what it held before the call. A feed is no such
  * buffer: it is the state that morlewen_feed_take and morlewen_feed_end move on, and they say to what. */
@@ -43,7 +49,7 @@ static inline uint32_t morlewen_value(uint64_t answer) { return (uint32_t)(answe
  * morlewen_find stops at a match, and the others open the one that they are asked for. */
 enum {
     MORLEWEN_DONE = 0,
-    /* reading a message */
+    /* reading a message; each has a place */
     MORLEWEN_TOO_SHORT = 1,              /* fewer than 21 bytes */
     MORLEWEN_WRONG_VERSION = 2,          /* the header version is not 4 */
     MORLEWEN_BAD_FLAGS = 3,              /* an unassigned flag is set, or the integrity kind is 3 */
@@ -62,12 +68,12 @@ enum {
     MORLEWEN_NO_RECORD = 22,             /* the record asked for is not there */
     MORLEWEN_BAD_LENGTH = 23,            /* the stored length is below 21 or above 510 */
     MORLEWEN_NOT_CLEAR = 24,             /* a byte after the message is not zero */
-    MORLEWEN_RECORD_REFUSED = 25,        /* reading refuses the record's message; the slot `reading` says why */
+    MORLEWEN_RECORD_REFUSED = 25,        /* reading refuses the record's message; `reading` says why, `value` where */
     MORLEWEN_NOT_FOUND = 27,             /* every record is good, and none has that type and number */
-    MORLEWEN_RADIO_REFUSED = 31,         /* reading refuses the radio's message; the slot `reading` says why */
+    MORLEWEN_RADIO_REFUSED = 31,         /* reading refuses the radio's message; `reading` says why, `value` where */
     /* 32 is not used again: of two messages that reading accepts neither is a proper beginning of the other */
     MORLEWEN_MESSAGE_TOO_LONG = 33,      /* a message for a record is over 510 bytes */
-    MORLEWEN_MESSAGE_REFUSED = 34,       /* reading refuses that message; the slot `reading` says why */
+    MORLEWEN_MESSAGE_REFUSED = 34,       /* reading refuses that message; `reading` says why, `value` where */
     MORLEWEN_WRONG_BUFFER = 35,          /* the buffer for a record is not 512 bytes */
     /* QoS */
     MORLEWEN_QOS_DOES_NOT_FIT = 41,      /* one of the five numbers does not fit its bits */
@@ -81,7 +87,7 @@ enum {
     MORLEWEN_FRAME_TYPE = 64,            /* the type is neither data message, 1, nor acknowledgment, 2 */
     MORLEWEN_FRAME_LENGTH = 65,          /* the data length does not put ETX last, or is not 4 in an acknowledgment */
     MORLEWEN_NO_ETX = 66,                /* the last byte is not ETX, 03 */
-    MORLEWEN_FRAME_MESSAGE_REFUSED = 67, /* reading refuses the message; the slot `reading` says why */
+    MORLEWEN_FRAME_MESSAGE_REFUSED = 67, /* reading refuses the message; `reading` says why, `value` where */
     MORLEWEN_FRAME_NO_ROOM = 68,         /* the buffer is shorter than the frame */
     MORLEWEN_FRAME_TOO_LONG = 69         /* longer than a data length can state: no message is, and it is never given */
 };
@@ -123,7 +129,7 @@ enum {
 
 enum { MORLEWEN_KIND_NONE = 0, MORLEWEN_KIND_CRC = 1, MORLEWEN_KIND_APPLICATION = 2 };
 
-/* Reads a message. Done: every one of the sixteen fields is written. Refused: 1 to 7. */
+/* Reads a message. Done: every one of the sixteen fields is written. Refused: 1 to 7, with the place. */
 uint64_t morlewen_read(const uint8_t *bytes, size_t length, uint64_t fields[MORLEWEN_FIELDS]);
 
 /* Writes a message to the front of the buffer. The flags alone set the integrity kind; `addressed` is 0 for no variable
@@ -138,7 +144,7 @@ uint64_t morlewen_write(uint16_t type, uint8_t version, uint8_t flags, uint32_t 
                         uint32_t integrity, uint8_t *buffer, size_t room);
 
 /* Reads a message and writes it again from its fields: the same bytes at the front of the buffer.
- * Done: `value` is the length, and the buffer beyond it is untouched. Refused: 1 to 7, or 15. */
+ * Done: `value` is the length, and the buffer beyond it is untouched. Refused: 1 to 7, with the place, or 15. */
 uint64_t morlewen_rewrite(const uint8_t *bytes, size_t length, uint8_t *buffer, size_t room);
 
 /* The five numbers of a QoS field: service request (0-7), special handling (0-15), network preference, priority and
@@ -189,11 +195,16 @@ enum { MORLEWEN_KEPT = 0, MORLEWEN_BROKEN = 1, MORLEWEN_NOT_JUDGED = 2 };
 enum { MORLEWEN_RULES = 7 };
 
 /* Judges any bytes. Every one of the seven verdicts is written, and it is never refused. `reading` is the lowest number of a
- * broken rule, 0 where none is broken: that is the number with which morlewen_read answers these bytes.
+ * broken rule and `value` its place, both 0 where none is broken: with that number and that place morlewen_read answers these bytes.
  * Rule 1 is always judged. 2 needs byte 0; 3 byte 4; 4 byte 16, which holds V; 5 bytes 5 to 7, which hold D, and 16; 6 bytes 21
  * to 16 + V; 7 the four bytes from place 17 + V + D, wherever the bytes lent end, and it takes the CRC over all before them. The
- * kind is bits 3 and 4 of the flags, whatever other rules are broken; of kinds 2 and 3 rule 7 asks nothing, and is kept. */
+ * kind is bits 3 and 4 of the flags, whatever other rules are broken; of kinds 2 and 3 rule 7 asks nothing of those four bytes but that they are there. */
 uint64_t morlewen_judge(const uint8_t *bytes, size_t length, uint8_t verdicts[MORLEWEN_RULES]);
+
+/* The same answer and the same verdicts, and beside them the place of each broken rule, at N - 1 as its verdict, by the table of
+ * THE PLACE above, wherever the bytes lent end: with 7 it is 17 + V + D. The place of a rule that is not broken is written as 0. */
+uint64_t morlewen_judge_places(const uint8_t *bytes, size_t length, uint8_t verdicts[MORLEWEN_RULES],
+                               uint64_t places[MORLEWEN_RULES]);
 
 /* ---- Golden files ----
  * `file` is the whole file in memory. It is only ever read. Records count from 0. */
@@ -246,7 +257,10 @@ enum {
 /* How a feed stands. 1 to 7, 51 and 52: refused, by that number (1 and 5 only in storage that no calls lead to). 0: inside a
  * message, of which so many bytes are in, or between messages with none; a MORLEWEN_FEED_COUNT of 510 or more stands for none.
  * 255: the message is whole. Any other number stands for 255, and morlewen_feed_take and morlewen_feed_end put 255 in its
- * place, also where nothing else changes. */
+ * place, also where nothing else changes.
+ * The place of a refusal that stands is not stored: its number and MORLEWEN_FEED_COUNT tell it, as the table of THE PLACE does for a
+ * message of so many bytes. With 1 it is that count and with 7 it is 4 less (0 where fewer than 4 are in), a count over 510
+ * standing for 510; 51 and 52 have none. (In storage that no calls lead to, fewer bytes may be in than the place says.) */
 enum { MORLEWEN_FEED_INSIDE = 0, MORLEWEN_FEED_WHOLE = 255 };
 
 /* A feed in one piece, for whom it suits: morlewen_feed_take(feed.kept, feed.numbers, ..). */
@@ -261,18 +275,18 @@ typedef struct {
  * stay.
  * Done: `value` is the size of the message found, its bytes are the first of those kept until the next byte or a restart, and
  * every one of the sixteen fields is written as morlewen_read would; or `value` is 0: none yet, and `fields` is as it was.
- * Refused: with the 17th byte of a message 2, 3, 4 or 51; with the last byte of the announced length 6 or 7. That byte is the
- * last one used, MORLEWEN_FEED_COUNT bytes are in with it, and `fields` is as it was. The refusal stands: each later call, of
- * morlewen_feed_end too, uses nothing, changes nothing and answers it again, until morlewen_feed_restart. An empty piece uses
- * nothing, and changes nothing but a number that stands for 255.
+ * Refused: with the 17th byte of a message 2, 3, 4 or 51; with the last byte of the announced length 6 or 7. `value` is the place
+ * in the message, 0 with 51. That byte is the last one used, MORLEWEN_FEED_COUNT bytes are in with it, and `fields` is as it was.
+ * The refusal stands: each later call, of morlewen_feed_end too, uses nothing, changes nothing and answers it again with its
+ * place, until morlewen_feed_restart. An empty piece uses nothing, and changes nothing but a number that stands for 255.
  * In storage that no calls lead to, 17 bytes or more may be in that are refused already, or are complete already: then the next
  * byte settles it, by 2, 3, 4, 51, or by what morlewen_read answers to all the bytes that are in, 5 among that. */
 uint64_t morlewen_feed_take(uint8_t kept[MORLEWEN_FEED_ROOM], uint64_t numbers[MORLEWEN_FEED_NUMBERS],
                             const uint8_t *piece, size_t length, uint64_t fields[MORLEWEN_FIELDS]);
 
 /* The end of the bytes. Done: no byte of a further message is in (a new feed, or right after a message), and nothing changes but
- * a number that stands for 255. Refused: 52 inside a message, which then stands, or the refusal that stands already. The bytes
- * kept stay as they are, and how many are in too. */
+ * a number that stands for 255. Refused: 52 inside a message, which then stands, with 0 for a place, or the refusal that stands
+ * already, with its place. The bytes kept stay as they are, and how many are in too. */
 uint64_t morlewen_feed_end(uint64_t numbers[MORLEWEN_FEED_NUMBERS]);
 
 /* Makes the feed a new one, whatever it was: all zeros. */

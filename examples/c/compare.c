@@ -63,7 +63,7 @@ int main(int argc, char **argv)
 
     uint64_t answer = morlewen_compare(golden, golden_length, record, radio, radio_length, places, PLACES);
     if (morlewen_number(answer) != MORLEWEN_DONE) {
-        printf("refused %u %u\n", morlewen_number(answer), morlewen_reading(answer));
+        printf("refused %u %u %u\n", morlewen_number(answer), morlewen_reading(answer), (unsigned)morlewen_value(answer));
         return 1;
     }
     if (morlewen_value(answer) == 0) {

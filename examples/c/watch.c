@@ -26,9 +26,9 @@ static void print_message(uint32_t size, const uint64_t *fields)
     fflush(stdout);
 }
 
-/* Gives the feed a piece until all of it is used, or something is refused: by that number, and 0 otherwise. A call uses a
+/* Gives the feed a piece until all of it is used, or something is refused: the answer that refused, and 0 otherwise. A call uses a
  * byte at least, or refuses. */
-static unsigned take(morlewen_feed *feed, const uint8_t *piece, size_t length, uint64_t *position)
+static uint64_t take(morlewen_feed *feed, const uint8_t *piece, size_t length, uint64_t *position)
 {
     uint64_t fields[MORLEWEN_FIELDS];
     while (length > 0) {
@@ -37,11 +37,20 @@ static unsigned take(morlewen_feed *feed, const uint8_t *piece, size_t length, u
         length -= morlewen_count(answer);
         *position += morlewen_count(answer);
         if (morlewen_number(answer) != MORLEWEN_DONE)
-            return morlewen_number(answer);
+            return answer;
         if (morlewen_value(answer) > 0)
             print_message(morlewen_value(answer), fields);
     }
-    return MORLEWEN_DONE;
+    return 0;
+}
+
+/* The refusal, and after how many bytes it was told; one by reading, 1 to 7, has a place in its message. */
+static void print_refusal(uint64_t answer, uint64_t position)
+{
+    printf("refused %u", morlewen_number(answer));
+    if (morlewen_number(answer) <= MORLEWEN_BAD_INTEGRITY)
+        printf(" at place %" PRIu32, morlewen_value(answer));
+    printf(" after %" PRIu64 " bytes\n", position);
 }
 
 int main(void)
@@ -49,21 +58,21 @@ int main(void)
     static morlewen_feed feed; /* all zeros: a new one */
     uint8_t piece[PIECE];
     uint64_t position = 0;
-    unsigned refusal = MORLEWEN_DONE;
+    uint64_t refusal = 0;
     ssize_t length = 0;
-    while (refusal == MORLEWEN_DONE && !ferror(stdout) && (length = next_piece(piece)) > 0)
+    while (refusal == 0 && !ferror(stdout) && (length = next_piece(piece)) > 0)
         refusal = take(&feed, piece, (size_t)length, &position);
     if (length < 0) {
         fprintf(stderr, "watch: standard input: %s\n", strerror(errno));
         return 2;
     }
-    if (refusal == MORLEWEN_DONE)
-        refusal = morlewen_number(morlewen_feed_end(feed.numbers));
-    if (refusal != MORLEWEN_DONE)
-        printf("refused %u after %" PRIu64 " bytes\n", refusal, position);
+    if (refusal == 0)
+        refusal = morlewen_feed_end(feed.numbers);
+    if (refusal != 0)
+        print_refusal(refusal, position);
     if (fflush(stdout) != 0 || ferror(stdout)) {
         fprintf(stderr, "watch: standard output cannot be written\n");
         return 2;
     }
-    return refusal == MORLEWEN_DONE ? 0 : 1;
+    return refusal == 0 ? 0 : 1;
 }

@@ -11,10 +11,11 @@ use lib.ListN.{length, take, length-append}
 use lib.Seq.{take-append-le}
 use Rattle.sum.specs.Promise.{Only₁}
 use Rattle.envelope.specs.Announcing.{AnnouncementAnswer, unfinished, refused, announces, announcedBy, announcing, toldAnnouncement, Announces}
-use Rattle.envelope.specs.Fields.{Fields, Refusal, accepted}
+use Rattle.envelope.specs.Fields.{Fields, Refusal, accepted, refusalBy}
 use Rattle.envelope.specs.Flags.{badFlags}
-use Rattle.envelope.specs.Heading.{flagsOf, variableSize, announced, wrongVersion, badVariableSize, HeadingAnswer, passed, refused, heading}
-use Rattle.envelope.specs.Layout.{headerSize, leastSize}
+use Rattle.envelope.specs.Heading.{flagsOf, variableSize, announced, wrongVersion, badVariableSize, HeadingAnswer, passed, heading}
+use Rattle.envelope.specs.Heading as judged
+use Rattle.envelope.specs.Layout.{versionPlace, flagsPlace, variableSizePlace, headerSize, leastSize}
 use Rattle.envelope.specs.Reading.{reading}
 use Rattle.envelope.specs.declared.announcer.Announcement.{Announcement}
 use Rattle.envelope.specs.declared.announcer.Announcement.the-variants as code
@@ -48,11 +49,11 @@ announcing-more s t h =
 
 judged-not-unfinished : (j : HeadingAnswer) (n : ℕ) → announcedBy j n ≡ unfinished → ⊥
 judged-not-unfinished passed n e = let z : _≡_ {A = ℕ} 0 1 = cc in omega arith
-judged-not-unfinished (refused k) n e = let z : _≡_ {A = ℕ} 0 1 = cc in omega arith
+judged-not-unfinished (judged.refused r) n e = let z : _≡_ {A = ℕ} 0 1 = cc in omega arith
 
 judged-announces : (j : HeadingAnswer) (n m : ℕ) → announcedBy j n ≡ announces m → (j ≡ passed) × (n ≡ m)
 judged-announces passed n m e = (refl, cc)
-judged-announces (refused k) n m e = (cc, cc)
+judged-announces (judged.refused r) n m e = (cc, cc)
 
 pub unfinished-short : (s : List ℕ) → announcing s ≡ unfinished → length s < headerSize
 unfinished-short s e = go (ltb (length s) headerSize) refl
@@ -97,25 +98,26 @@ announced-completed s e =
     let t = announces-says s (length s) e in
     completed s (t .heading) (t .length)
 
--- ---- a heading is refused as 2, 3 or 4
+-- ---- a heading is refused as 2, 3 or 4, each with its place
 
-pub data HeadingNumber (n : ℕ) : Type 0 where
-  as-2 : n ≡ 2 → HeadingNumber n
-  as-3 : n ≡ 3 → HeadingNumber n
-  as-4 : n ≡ 4 → HeadingNumber n
+pub data HeadingRefusal (r : Refusal) : Type 0 where
+  as-2 : r ≡ refusalBy 2 versionPlace → HeadingRefusal r
+  as-3 : r ≡ refusalBy 3 flagsPlace → HeadingRefusal r
+  as-4 : r ≡ refusalBy 4 variableSizePlace → HeadingRefusal r
 
-judged-refused : (a b c : Bool) (n : ℕ) (r : Refusal) → announcedBy (cond a (refused 2) (cond b (refused 3) (cond c (refused 4) passed))) n ≡ refused r
-    → HeadingNumber (r .number)
+judged-refused : (a b c : Bool) (n : ℕ) (r : Refusal)
+    → announcedBy (cond a (judged.refused (refusalBy 2 versionPlace)) (cond b (judged.refused (refusalBy 3 flagsPlace)) (cond c (judged.refused (refusalBy 4 variableSizePlace)) passed))) n ≡ refused r
+    → HeadingRefusal r
 judged-refused true b c n r e = as-2 (cc)
 judged-refused false true c n r e = as-3 (cc)
 judged-refused false false true n r e = as-4 (cc)
 judged-refused false false false n r e = let z : _≡_ {A = ℕ} 0 1 = cc in absurd (omega arith)
 
-pub refused-number : (s : List ℕ) (r : Refusal) → announcing s ≡ refused r → HeadingNumber (r .number)
+pub refused-heading : (s : List ℕ) (r : Refusal) → announcing s ≡ refused r → HeadingRefusal r
 unfolding heading
-refused-number s r e = go (ltb (length s) headerSize) refl
+refused-heading s r e = go (ltb (length s) headerSize) refl
   where
-    go : (b : Bool) → ltb (length s) headerSize ≡ b → HeadingNumber (r .number)
+    go : (b : Bool) → ltb (length s) headerSize ≡ b → HeadingRefusal r
     go true q =
         let no : unfinished ≡ refused r = sym (announcing-short s (ltb-true (length s) headerSize q)) ∙ e in
         let z : _≡_ {A = ℕ} 0 1 = cc in

@@ -9,6 +9,7 @@ use borrow.Author.Tests.{le-leb, ltb-false, eqb-false}
 use lib.Dec.{leb, ltb, eqb}
 use lib.ListN.{take}
 use lib.Seq.{getD-take}
+use Rattle.envelope.specs.Fields.{Refusal}
 use Rattle.envelope.specs.Flags.{kindOf, kindUnassigned, badFlags}
 use Rattle.envelope.specs.Heading.{flagsOf, variableSize, dataLength, announced, wrongVersion, badVariableSize, passed, refused, heading}
 use Rattle.envelope.specs.Layout.{dataLengthPlace, variableSizePlace, headerSize, fieldSize, smallestVariable, largestVariable}
@@ -26,7 +27,7 @@ pub record Passed (s : List ℕ) : Type 0 where
   pub flags : badFlags (flagsOf s) ≡ false
   pub size : badVariableSize (variableSize s) ≡ false
 
-refused-is-not-passed : {n : ℕ} → refused n ≡ passed → ⊥
+refused-is-not-passed : {r : Refusal} → refused r ≡ passed → ⊥
 refused-is-not-passed e = let z : _≡_ {A = ℕ} 0 1 = cc in omega arith
 
 pub heading-passed : (s : List ℕ) → heading s ≡ passed → Passed s

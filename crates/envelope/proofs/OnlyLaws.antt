@@ -16,7 +16,7 @@ use Rattle.envelope.specs.Promise.{Only₂}
 use Rattle.envelope.specs.Qos.{QosFields, splitting, QosAnswer, joining, toldQos, toldJoining, Splits, Joins}
 use Rattle.envelope.specs.Qos as qos
 use Rattle.envelope.specs.Reading.{reading}
-use Rattle.envelope.specs.Refusals.{RefusalNumbers, numbersOf, toldNumbers, TellsNumbers}
+use Rattle.envelope.specs.Refusals.{RefusalNumbers, numbersOf, readingNumbers, toldNumbers, TellsNumbers, NumbersByReading}
 use Rattle.envelope.specs.Refusals as passed
 use Rattle.envelope.specs.Rewriting.{RewriteAnswer, toldRewriting, Rewrites}
 use Rattle.envelope.specs.Rewriting as rewriting
@@ -40,6 +40,7 @@ use Rattle.envelope.specs.declared.reader.Fault.the-variants.{TooShort, 
 use Rattle.envelope.specs.declared.reader.Reading.{Reading}
 use Rattle.envelope.specs.declared.reader.Reading.the-variants.{Accepted, Refused}
 use Rattle.envelope.specs.declared.reader.Refusal.{Refusal}
+use Rattle.envelope.specs.declared.refusals.Numbers.{Numbers}
 use Rattle.envelope.specs.declared.sequence.Sequence.{Sequence}
 use Rattle.envelope.specs.declared.sequence.Sequence.the-variants.{Repeat, Next, Ahead, Behind}
 use Rattle.envelope.specs.declared.rewriter.Rewriting.{Rewriting}
@@ -71,18 +72,24 @@ untold-fault BadAddresses = refl
 untold-fault BadIntegrity = refl
 
 abbrev pub untoldRefusal : paper.Refusal → Refusal
-untoldRefusal r = record { fault = untoldFault (r .number) }
+untoldRefusal r = record { fault = untoldFault (r .number); place = r .place }
 
 pub untold-refusal : (r : Refusal) → untoldRefusal (toldRefusal r) ≡ r
-untold-refusal r = λ i. record { fault = untold-fault (r .fault) i }
+untold-refusal r = λ i. record { fault = untold-fault (r .fault) i; place = r .place }
 
 pub only-numbers-fault : (f : Fault) → Only₁ (NumbersFault f)
 only-numbers-fault f a b p q = p ∙ sym q
 
--- of whoever passes it on
+-- the numbers of a refusal: of reading itself, and of whoever passes it on
+pub only-told-numbers : (n : RefusalNumbers) → Only₁ (λ (r : Numbers). toldNumbers r ≡ n)
+only-told-numbers n =
+    only-by-telling toldNumbers (λ (m : RefusalNumbers). record { number = m .number; reading = m .reading; place = m .place }) (λ a. refl) n
+
+pub only-numbers-by-reading : (r : Refusal) → Only₁ (NumbersByReading r)
+only-numbers-by-reading r = only-told-numbers (readingNumbers (toldRefusal r))
+
 pub only-numbers : (r : passed.Refused) → Only₁ (TellsNumbers r)
-only-numbers r =
-    only-by-telling toldNumbers (λ (n : RefusalNumbers). record { number = n .number; reading = n .reading }) (λ a. refl) (numbersOf r)
+only-numbers r = only-told-numbers (numbersOf r)
 
 abbrev untoldPart : Span → Part
 untoldPart p = record { place = p .place; size = p .size }

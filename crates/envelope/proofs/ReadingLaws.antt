@@ -1,21 +1,22 @@
 -- What acceptance says, for the layers above: they cite these laws and never open the definition of reading.
 -- `Good` has everything that an accepted message keeps; the laws below are its parts in 01's words.
-use mathlib.Core.Bool.{Bool, true, false, cond, not}
+use mathlib.Core.Bool.{Bool, true, false}
 use mathlib.Core.List.{List}
-use mathlib.Core.Path.{_≡_, refl, ap, sym, _∙_, subst}
+use mathlib.Core.Path.{_≡_, refl, ap, sym, _∙_}
 use Prim.Native.Nat.{ℕ, _≤_, _<_, _-_}
 use native.Mathlib.Omega.{arith}
 use borrow.Author.Tests.{eqb-true, eqb-false, eq-eqb, ltb-false, le-ltb, not-false}
-use lib.Dec.{T, T-not, eqb, eqb-refl}
+use lib.Dec.{eqb}
 use lib.ListN.{length, take}
 use Rattle.sum.specs.Crc.{crc32}
 use Rattle.sum.specs.Detection.{Bytes}
 use Rattle.envelope.specs.Addresses.{badAddresses}
-use Rattle.envelope.specs.Fields.{IntegrityFields, none, crc, application, Fields, Refusal, Answer, accepted, refusedBy}
-use Rattle.envelope.specs.Flags.{kindOf, kindNone, kindCrc, kindApplication, kindUnassigned, badFlags}
-use Rattle.envelope.specs.Heading.{flagsOf, variableSize, dataLength, fieldPlace, announced, wrongVersion, badVariableSize, HeadingAnswer, passed, refused, heading}
+use Rattle.envelope.specs.Fields.{IntegrityFields, none, crc, application, Fields, Refusal, Answer, accepted, refused, refusedBy}
+use Rattle.envelope.specs.Flags.{kindOf, kindNone, kindCrc, kindApplication, kindUnassigned}
+use Rattle.envelope.specs.Heading.{flagsOf, variableSize, dataLength, fieldPlace, announced, HeadingAnswer, passed, heading}
+use Rattle.envelope.specs.Heading as judged
 use Rattle.envelope.specs.IntegrityField.{badIntegrity}
-use Rattle.envelope.specs.Layout.{typePlace, numberPlace, leastSize, fieldSize, largestBody, largestMessage}
+use Rattle.envelope.specs.Layout.{typePlace, numberPlace, addressesPlace, leastSize, fieldSize, largestBody, largestMessage}
 use Rattle.envelope.specs.Numbers.{twoAt, threeAt, fourAt}
 use Rattle.envelope.specs.Reading.{tooShort, wrongLength, headerOf, integrityOf, fieldsOf, readingWhole, after, reading}
 use Rattle.envelope.proofs.BoolLaws.{past}
@@ -31,11 +32,11 @@ pub record Good (s : List ℕ) (f : Fields) : Type 0 where
   pub integrity : badIntegrity s (kindOf (flagsOf s)) (fieldPlace s) ≡ false
   pub fields : f ≡ fieldsOf s
 
-refused-is-not-accepted : {n : ℕ} {f : Fields} → refusedBy n ≡ accepted f → ⊥
+refused-is-not-accepted : {r : Refusal} {f : Fields} → refused r ≡ accepted f → ⊥
 refused-is-not-accepted e = let z : _≡_ {A = ℕ} 0 1 = cc in omega arith
 
 past-heading : (j : HeadingAnswer) (rest : Answer) (f : Fields) → after j rest ≡ accepted f → (j ≡ passed) × (rest ≡ accepted f)
-past-heading (refused n) rest f e = (cc, cc)
+past-heading (judged.refused r) rest f e = (cc, cc)
 past-heading passed rest f e = (refl, e)
 
 same-fields : (f g : Fields) → accepted f ≡ accepted g → g ≡ f
@@ -81,17 +82,11 @@ accepted-most s f bytes e =
     let g = good s f e in
     omega (arith, g .size, announced-is s, size-most (variableSize s) (g .heading .size), data-length-most s bytes)
 
--- two refusals with different numbers differ
-apart-number : (m n : ℕ) → T (not (eqb m n)) → refusedBy m ≡ refusedBy n → ⊥
-apart-number m n t e =
-    let same : _≡_ {A = Refusal} (record { number = m }) (record { number = n }) = cc in
-    T-not (eqb m n) t (subst (λ (k : ℕ). T (eqb m k)) (ap (λ (r : Refusal). r .number) same) (eqb-refl m))
-
 -- a heading that passed and the announced length: accepted, or refused as 6 or 7
 pub data Completed (s : List ℕ) : Type 0 where
   accepts-it : (f : Fields) → reading s ≡ accepted f → Completed s
-  refuses-6 : reading s ≡ refusedBy 6 → Completed s
-  refuses-7 : reading s ≡ refusedBy 7 → Completed s
+  refuses-6 : reading s ≡ refusedBy 6 addressesPlace → Completed s
+  refuses-7 : reading s ≡ refusedBy 7 (fieldPlace s) → Completed s
 
 pub completed : (s : List ℕ) → heading s ≡ passed → announced s ≡ length s → Completed s
 unfolding reading readingWhole
@@ -104,27 +99,6 @@ completed s h n = go (badAddresses s (variableSize s)) refl (badIntegrity s (kin
     go true ea i ei = refuses-6 (rw (long, h, eq-eqb (announced s) (length s) n, ea))
     go false ea true ei = refuses-7 (rw (long, h, eq-eqb (announced s) (length s) n, ea, ei))
     go false ea false ei = accepts-it (fieldsOf s) (rw (long, h, eq-eqb (announced s) (length s) n, ea, ei))
-
--- 1 is for messages that are too short, and no other rule gives it
-whole-not-1 : (a b c : Bool) (f : Fields) → cond a (refusedBy 5) (cond b (refusedBy 6) (cond c (refusedBy 7) (accepted f))) ≡ refusedBy 1 → ⊥
-whole-not-1 true b c f e = apart-number 5 1 tt e
-whole-not-1 false true c f e = apart-number 6 1 tt e
-whole-not-1 false false true f e = apart-number 7 1 tt e
-whole-not-1 false false false f e = let z : _≡_ {A = ℕ} 0 1 = cc in omega arith
-
-heading-not-1 : (a b c : Bool) (rest : Answer) → (rest ≡ refusedBy 1 → ⊥)
-    → after (cond a (refused 2) (cond b (refused 3) (cond c (refused 4) passed))) rest ≡ refusedBy 1 → ⊥
-heading-not-1 true b c rest h e = apart-number 2 1 tt e
-heading-not-1 false true c rest h e = apart-number 3 1 tt e
-heading-not-1 false false true rest h e = apart-number 4 1 tt e
-heading-not-1 false false false rest h e = h e
-
-pub long-not-1 : (s : List ℕ) → leastSize ≤ length s → reading s ≡ refusedBy 1 → ⊥
-unfolding reading readingWhole heading
-long-not-1 s l e =
-    heading-not-1 (wrongVersion s) (badFlags (flagsOf s)) (badVariableSize (variableSize s)) _
-    (whole-not-1 (wrongLength s) (badAddresses s (variableSize s)) (badIntegrity s (kindOf (flagsOf s)) (fieldPlace s)) (fieldsOf s))
-    (rw (le-ltb (length s) leastSize l) at e)
 
 -- ---- fields by their places
 

@@ -13,7 +13,7 @@ use Rattle.envelope.specs.Fields as fields
 use Rattle.envelope.specs.Layout.{largestMessage}
 use Rattle.envelope.specs.Message.{Given}
 use Rattle.envelope.specs.Reading.{reading}
-use Rattle.envelope.specs.Rewriting.{RewriteAnswer, rewrote, refused, rewritingRead, rewriting, afterRewriting, rewroteLength, RewritesNoLonger, noRoom, toldRewriting, RefusedRewriteWritesNothing}
+use Rattle.envelope.specs.Rewriting.{RewriteAnswer, rewrote, refused, rewritingRead, rewriting, afterRewriting, rewroteLength, RewritesNoLonger, rewritePlace, RewritePointsWithin, RewritePassesOn, noRoom, toldRewriting, RefusedRewriteWritesNothing}
 use Rattle.envelope.specs.RoundTrips.{applicationNumber, givenBy}
 use Rattle.envelope.specs.Told.{toldPart, toldIntegrity, toldEnvelope}
 use Rattle.envelope.specs.Writing.{WriteOutcome, written, refused, writing, afterWriting, wrote, answerToWriting, given, Writes}
@@ -23,6 +23,7 @@ use Rattle.envelope.specs.declared.fields.Envelope.{Envelope}
 use Rattle.envelope.specs.declared.fields.Part.{Part}
 use Rattle.envelope.specs.declared.writer.Routing.the-variants as routing
 use Rattle.envelope.specs.declared.writer.Writing.{Writing}
+use Rattle.envelope.proofs.PlaceLaws.{places-within}
 use Rattle.envelope.proofs.ReadingLaws.{accepted-most}
 use Rattle.envelope.proofs.RoundTripLaws.{written-again}
 
@@ -92,6 +93,28 @@ rewrites-no-longer s room bytes = go (reading s) refl
     go : (a : Answer) → reading s ≡ a → rewroteLength (rewritingRead a s room) ≤ largestMessage
     go (fields.refused r) e = omega arith
     go (accepted f) e = fits (ltb room (length s)) (accepted-most s f bytes e)
+
+pub rewrite-points-within : RewritePointsWithin
+rewrite-points-within s room bytes = go (reading s) refl
+  where
+    fits : (b : Bool) → rewritePlace (cond b noRoom (rewrote (length s))) ≤ largestMessage
+    fits true = omega arith
+    fits false = omega arith
+
+    go : (a : Answer) → reading s ≡ a → rewritePlace (rewritingRead a s room) ≤ largestMessage
+    go (fields.refused r) e = places-within s r bytes e
+    go (accepted f) e = fits (ltb room (length s))
+
+pub rewrite-passes-on : RewritePassesOn
+rewrite-passes-on s room r = go (reading s) refl
+  where
+    fits : (b : Bool) → cond b noRoom (rewrote (length s)) ≡ refused r → ⊥
+    fits true e = let z : _≡_ {A = ℕ} 0 1 = cc in omega arith
+    fits false e = let z : _≡_ {A = ℕ} 0 1 = cc in omega arith
+
+    go : (a : Answer) → reading s ≡ a → rewritingRead a s room ≡ refused r → reading s ≡ fields.refused r
+    go (fields.refused q) e d = let is : q ≡ r = cc in e ∙ ap fields.refused is
+    go (accepted f) e d = absurd (fits (ltb room (length s)) d)
 
 -- ---- what a refusal leaves
 

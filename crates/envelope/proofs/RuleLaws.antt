@@ -7,14 +7,15 @@ use Prim.Native.Nat.{ℕ, _≤_, _<_, _+_, _/_}
 use native.Mathlib.Omega.{arith}
 use borrow.Author.Tests.{eq-eqb, ne-eqb, le-leb, lt-ltb, le-ltb}
 use lib.Dec.{eqb, ltb}
-use lib.ListN.{take}
+use lib.ListN.{length, take}
 use Rattle.sum.specs.Crc.{crc32}
 use Rattle.envelope.specs.Addresses.{badAddresses}
-use Rattle.envelope.specs.Fields.{Answer, accepted, refusedBy}
+use Rattle.envelope.specs.Fields.{Answer, accepted, refusalBy, refusedBy}
 use Rattle.envelope.specs.Flags.{kindOf, kindNone, kindCrc, kindUnassigned, badFlags}
-use Rattle.envelope.specs.Heading.{flagsOf, variableSize, fieldPlace, wrongVersion, badVariableSize, passed, refused, heading}
+use Rattle.envelope.specs.Heading.{flagsOf, variableSize, fieldPlace, wrongVersion, badVariableSize, passed, heading}
+use Rattle.envelope.specs.Heading as judged
 use Rattle.envelope.specs.IntegrityField.{badIntegrity}
-use Rattle.envelope.specs.Layout.{smallestVariable, largestVariable}
+use Rattle.envelope.specs.Layout.{versionPlace, flagsPlace, dataLengthPlace, variableSizePlace, addressesPlace, smallestVariable, largestVariable}
 use Rattle.envelope.specs.Numbers.{byteAt, twoBytes, threeBytes, fourBytes, twoAt, threeAt, fourAt}
 use Rattle.envelope.specs.Reading.{tooShort, wrongLength, fieldsOf, readingWhole, after, reading}
 
@@ -80,23 +81,23 @@ module _ (s : List ℕ) (kind place : ℕ) where
 -- ---- the table
 
 after-heading : (a b c : Bool) (rest : Answer)
-    → after (cond a (refused 2) (cond b (refused 3) (cond c (refused 4) passed))) rest
-    ≡ cond a (refusedBy 2) (cond b (refusedBy 3) (cond c (refusedBy 4) rest))
+    → after (cond a (judged.refused (refusalBy 2 versionPlace)) (cond b (judged.refused (refusalBy 3 flagsPlace)) (cond c (judged.refused (refusalBy 4 variableSizePlace)) passed))) rest
+    ≡ cond a (refusedBy 2 versionPlace) (cond b (refusedBy 3 flagsPlace) (cond c (refusedBy 4 variableSizePlace) rest))
 after-heading true b c rest = refl
 after-heading false true c rest = refl
 after-heading false false true rest = refl
 after-heading false false false rest = refl
 
 pub reading-by-rules : (s : List ℕ) → reading s
-    ≡ cond (tooShort s) (refusedBy 1)
-    (cond (wrongVersion s) (refusedBy 2)
-    (cond (badFlags (flagsOf s)) (refusedBy 3)
-    (cond (badVariableSize (variableSize s)) (refusedBy 4)
-    (cond (wrongLength s) (refusedBy 5)
-    (cond (badAddresses s (variableSize s)) (refusedBy 6)
-    (cond (badIntegrity s (kindOf (flagsOf s)) (fieldPlace s)) (refusedBy 7)
+    ≡ cond (tooShort s) (refusedBy 1 (length s))
+    (cond (wrongVersion s) (refusedBy 2 versionPlace)
+    (cond (badFlags (flagsOf s)) (refusedBy 3 flagsPlace)
+    (cond (badVariableSize (variableSize s)) (refusedBy 4 variableSizePlace)
+    (cond (wrongLength s) (refusedBy 5 dataLengthPlace)
+    (cond (badAddresses s (variableSize s)) (refusedBy 6 addressesPlace)
+    (cond (badIntegrity s (kindOf (flagsOf s)) (fieldPlace s)) (refusedBy 7 (fieldPlace s))
     (accepted (fieldsOf s))))))))
 unfolding reading readingWhole heading
 reading-by-rules s =
-    ap (cond (tooShort s) (refusedBy 1))
+    ap (cond (tooShort s) (refusedBy 1 (length s)))
     (after-heading (wrongVersion s) (badFlags (flagsOf s)) (badVariableSize (variableSize s)) _)

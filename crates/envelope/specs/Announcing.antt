@@ -21,7 +21,7 @@ pub data AnnouncementAnswer : Type 0 where
 
 -- rules 2 to 4 come before the length
 abbrev pub announcedBy : HeadingAnswer → ℕ → AnnouncementAnswer
-announcedBy (judged.refused n) whole = refused (record { number = n })
+announcedBy (judged.refused r) whole = refused r
 announcedBy passed whole = announces whole
 
 -- fewer than 17 bytes announce nothing

@@ -1,4 +1,4 @@
--- The paper's answers to reading, in plain numbers: the fields of an accepted message, or a refusal with its number and no fields. RULES 1.
+-- The paper's answers to reading, in plain numbers: the fields of an accepted message, or a refusal with its number, its place and no fields. RULES 1 and 2.
 -- The code's own types are told in these, by specs/Told.
 use Prim.Native.Nat.{ℕ}
 use mathlib.Core.List.{List}
@@ -32,16 +32,21 @@ pub record Fields : Type 0 where
   pub body : Span
   pub integrity : IntegrityFields
 
+-- the rule that is broken, and the place in the message that it names
 pub record Refusal : Type 0 where
   pub number : ℕ
+  pub place : ℕ
 
 pub data Answer : Type 0 where
   accepted : Fields → Answer
   refused : Refusal → Answer
 
--- the refusal of a rule
-abbrev pub refusedBy : ℕ → Answer
-refusedBy n = refused (record { number = n })
+-- the refusal of a rule, at a place
+abbrev pub refusalBy : (number place : ℕ) → Refusal
+refusalBy number place = record { number = number; place = place }
+
+abbrev pub refusedBy : (number place : ℕ) → Answer
+refusedBy number place = refused (refusalBy number place)
 
 -- the bytes of a part
 abbrev pub partOf : List ℕ → Span → List ℕ

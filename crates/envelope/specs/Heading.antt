@@ -4,6 +4,7 @@ use Prim.Native.Nat.{ℕ, _+_}
 use mathlib.Core.Bool.{Bool, cond, not, _&&_, _||_}
 use mathlib.Core.List.{List}
 use lib.Dec.{eqb, leb, ltb}
+use Rattle.envelope.specs.Fields.{Refusal, refusalBy}
 use Rattle.envelope.specs.Flags.{badFlags}
 use Rattle.envelope.specs.Layout.{headerVersion, versionPlace, flagsPlace, dataLengthPlace, variableSizePlace, headerSize, fieldSize, smallestVariable, largestVariable}
 use Rattle.envelope.specs.Numbers.{byteAt, threeAt}
@@ -36,11 +37,11 @@ badVariableSize v = leb 1 v && ltb v smallestVariable || ltb largestVariable v
 -- the first of rules 2 to 4 that is broken
 pub data HeadingAnswer : Type 0 where
   passed : HeadingAnswer
-  refused : ℕ → HeadingAnswer
+  refused : Refusal → HeadingAnswer
 
 unfoldable pub heading : List ℕ → HeadingAnswer
 heading s =
-    cond (wrongVersion s) (refused 2)
-    (cond (badFlags (flagsOf s)) (refused 3)
-    (cond (badVariableSize (variableSize s)) (refused 4)
+    cond (wrongVersion s) (refused (refusalBy 2 versionPlace))
+    (cond (badFlags (flagsOf s)) (refused (refusalBy 3 flagsPlace))
+    (cond (badVariableSize (variableSize s)) (refused (refusalBy 4 variableSizePlace))
     passed))

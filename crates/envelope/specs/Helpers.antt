@@ -11,7 +11,7 @@ use Rattle.envelope.specs.Heading.{HeadingAnswer, passed, refused}
 use Rattle.envelope.specs.Layout.{headerSize, routingSize, largestAddress, largestBody, fieldSize}
 use Rattle.envelope.specs.Message.{RoutingFields, unaddressed, addressed}
 use Rattle.envelope.specs.RoundTrips.{givenBy}
-use Rattle.envelope.specs.Told.{toldFault, toldAddressing, toldIntegrity, toldEnvelope}
+use Rattle.envelope.specs.Told.{toldRefusal, toldAddressing, toldIntegrity, toldEnvelope}
 use Rattle.envelope.specs.Writing.{Writes}
 use Rattle.envelope.specs.declared.addresses.Ends.{Ends}
 use Rattle.envelope.specs.declared.addresses.Ends.the-variants as ends
@@ -49,7 +49,7 @@ toldFoundIntegrity (integrity.Good i) = some (toldIntegrity i)
 
 abbrev pub toldHeading : Heading → HeadingAnswer
 toldHeading heading.Passed = passed
-toldHeading (heading.Refused f) = refused (toldFault f)
+toldHeading (heading.Refused r) = refused (toldRefusal r)
 
 -- ---- of the writer
 

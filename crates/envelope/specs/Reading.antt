@@ -1,4 +1,4 @@
--- Reading: the seven rules in their order, the first that applies is the answer, and the fields where none does. RULES 2.
+-- Reading: the seven rules in their order, the first that applies is the answer with its place, and the fields where none does. RULES 2.
 -- `s` is the list of the bytes lent.
 use Prim.Native.Nat.{ℕ, _+_}
 use mathlib.Core.Bool.{Bool, cond, not}
@@ -6,11 +6,12 @@ use mathlib.Core.List.{List}
 use lib.Dec.{eqb, ltb}
 use lib.ListN.{length}
 use Rattle.envelope.specs.Addresses.{regionOf, sourceSize, destinationSize, badAddresses}
-use Rattle.envelope.specs.Fields.{Span, HeaderFields, AddressingFields, absent, present, IntegrityFields, none, crc, application, Fields, Answer, accepted, refusedBy}
+use Rattle.envelope.specs.Fields.{Span, HeaderFields, AddressingFields, absent, present, IntegrityFields, none, crc, application, Fields, Answer, accepted, refused, refusedBy}
 use Rattle.envelope.specs.Flags.{kindOf, kindNone, kindCrc}
-use Rattle.envelope.specs.Heading.{flagsOf, variableSize, dataLength, fieldPlace, announced, HeadingAnswer, passed, refused, heading}
+use Rattle.envelope.specs.Heading.{flagsOf, variableSize, dataLength, fieldPlace, announced, HeadingAnswer, passed, heading}
+use Rattle.envelope.specs.Heading as judged
 use Rattle.envelope.specs.IntegrityField.{badIntegrity}
-use Rattle.envelope.specs.Layout.{typePlace, messageVersionPlace, numberPlace, timePlace, ttlPlace, qosPlace, headerSize, addressesPlace, leastSize}
+use Rattle.envelope.specs.Layout.{typePlace, messageVersionPlace, numberPlace, timePlace, ttlPlace, qosPlace, dataLengthPlace, headerSize, addressesPlace, leastSize}
 use Rattle.envelope.specs.Numbers.{byteAt, twoAt, fourAt}
 
 -- rule 1
@@ -63,15 +64,15 @@ fieldsOf s =
 -- rules 5 to 7, which look at the whole message
 unfoldable pub readingWhole : List ℕ → Answer
 readingWhole s =
-    cond (wrongLength s) (refusedBy 5)
-    (cond (badAddresses s (variableSize s)) (refusedBy 6)
-    (cond (badIntegrity s (kindOf (flagsOf s)) (fieldPlace s)) (refusedBy 7)
+    cond (wrongLength s) (refusedBy 5 dataLengthPlace)
+    (cond (badAddresses s (variableSize s)) (refusedBy 6 addressesPlace)
+    (cond (badIntegrity s (kindOf (flagsOf s)) (fieldPlace s)) (refusedBy 7 (fieldPlace s))
     (accepted (fieldsOf s))))
 
 -- what follows the heading, unless the heading is refused
 abbrev pub after : HeadingAnswer → Answer → Answer
-after (refused n) rest = refusedBy n
+after (judged.refused r) rest = refused r
 after passed rest = rest
 
 unfoldable pub reading : List ℕ → Answer
-reading s = cond (tooShort s) (refusedBy 1) (after (heading s) (readingWhole s))
+reading s = cond (tooShort s) (refusedBy 1 (length s)) (after (heading s) (readingWhole s))

@@ -1,5 +1,5 @@
 -- A refusal of whoever rests on reading: its number alone, or its number with the refusal of reading, passed on whole. RULES 5 and 8.
--- In numbers it is its own and that of reading, 0 where reading had no part in it.
+-- In numbers it is its own, that of reading and the place, both 0 where reading had no part in it.
 use Prim.Native.Nat.{ℕ}
 use mathlib.Core.Bool.{Bool, true, false, _||_}
 use mathlib.Core.List.{List, [], _∷_}
@@ -17,19 +17,31 @@ pub data Refused : Type 0 where
 pub record RefusalNumbers : Type 0 where
   pub number : ℕ
   pub reading : ℕ
+  pub place : ℕ
 
 abbrev pub numbersOf : Refused → RefusalNumbers
-numbersOf (plainly n) = record { number = n; reading = 0 }
-numbersOf (passingOn n r) = record { number = n; reading = r .number }
+numbersOf (plainly n) = record { number = n; reading = 0; place = 0 }
+numbersOf (passingOn n r) = record { number = n; reading = r .number; place = r .place }
+
+-- the place that a refusal passes on, 0 where it passes none on
+abbrev pub placeIn : Refused → ℕ
+placeIn r = numbersOf r .place
+
+-- a refusal of reading itself: its number is its own
+abbrev pub readingNumbers : Refusal → RefusalNumbers
+readingNumbers r = record { number = r .number; reading = 0; place = r .place }
 
 abbrev pub toldNumbers : Numbers → RefusalNumbers
-toldNumbers n = record { number = n .number; reading = n .reading }
+toldNumbers n = record { number = n .number; reading = n .reading; place = n .place }
 
 -- the numbers of a refusal; what `numbers` of each crate's refusals promises
 abbrev pub TellsNumbers : Refused → Numbers → Type 0
 TellsNumbers refused r = toldNumbers r ≡ numbersOf refused
 
--- what `Numbers::plainly` and `Numbers::passing_on` promise
+-- what `Numbers::by_reading`, `Numbers::plainly` and `Numbers::passing_on` promise
+abbrev pub NumbersByReading : CodeRefusal → Numbers → Type 0
+NumbersByReading refusal r = toldNumbers r ≡ readingNumbers (toldRefusal refusal)
+
 abbrev pub NumbersPlainly : ℕ → Numbers → Type 0
 NumbersPlainly n r = TellsNumbers (plainly n) r
 

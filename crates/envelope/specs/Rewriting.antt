@@ -51,6 +51,19 @@ rewroteLength noRoom = 0
 abbrev pub RewritesNoLonger : Type 0
 RewritesNoLonger = (s : List ℕ) (room : ℕ) → Bytes s → rewroteLength (rewriting s room) ≤ largestMessage
 
+-- nor does a refusal's place lie past the longest message
+abbrev pub rewritePlace : RewriteAnswer → ℕ
+rewritePlace (rewrote n) = 0
+rewritePlace (refused r) = r .place
+rewritePlace noRoom = 0
+
+abbrev pub RewritePointsWithin : Type 0
+RewritePointsWithin = (s : List ℕ) (room : ℕ) → Bytes s → rewritePlace (rewriting s room) ≤ largestMessage
+
+-- a refusal that is passed on is reading's, whole
+abbrev pub RewritePassesOn : Type 0
+RewritePassesOn = (s : List ℕ) (room : ℕ) (r : Refusal) → rewriting s room ≡ refused r → reading s ≡ read.refused r
+
 -- what `rewrite` promises
 abbrev pub Rewrites : List ℕ → List ℕ → Rewriting → List ℕ → Type 0
 Rewrites s entry r exit =

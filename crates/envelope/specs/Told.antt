@@ -33,7 +33,7 @@ NumbersFault f r = r ≡ toldFault f
 
 -- whoever passes a refusal on passes on all of it
 abbrev pub toldRefusal : CodeRefusal → Refusal
-toldRefusal r = record { number = toldFault (r .fault) }
+toldRefusal r = record { number = toldFault (r .fault); place = r .place }
 
 abbrev pub toldPart : Part → Span
 toldPart p = record { place = p .place; size = p .size }

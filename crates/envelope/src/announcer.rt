@@ -29,7 +29,7 @@ pub fn announce(bytes: &[u8]) -> Announcement
         return Announcement::Unfinished;
     }
     match judge_heading(bytes) {
-        Heading::Refused(fault) => Announcement::Refused(Refusal { fault }),
+        Heading::Refused(refusal) => Announcement::Refused(refusal),
         Heading::Passed => Announcement::Length(announced_length(bytes)),
     }
 }

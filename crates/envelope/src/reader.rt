@@ -31,9 +31,10 @@ pub enum Fault {
     BadIntegrity,
 }
 
-// Whoever passes a refusal on passes it on whole.
+// The rule that is broken, and the place in the message that it names. Whoever passes a refusal on passes it on whole.
 pub struct Refusal {
     pub fault: Fault,
+    pub place: usize,
 }
 
 pub enum Reading {
@@ -43,7 +44,7 @@ pub enum Reading {
 
 pub(crate) enum Heading {
     Passed,
-    Refused(Fault),
+    Refused(Refusal),
 }
 
 pub fn read(bytes: &[u8]) -> Reading
@@ -52,10 +53,11 @@ pub fn read(bytes: &[u8]) -> Reading
     if bytes.len() < Envelope::LEAST_SIZE {
         return Reading::Refused(Refusal {
             fault: Fault::TooShort,
+            place: bytes.len(),
         });
     }
     match judge_heading(bytes) {
-        Heading::Refused(fault) => Reading::Refused(Refusal { fault }),
+        Heading::Refused(refusal) => Reading::Refused(refusal),
         Heading::Passed => read_whole(bytes),
     }
 }
@@ -66,13 +68,22 @@ pub(crate) fn judge_heading(bytes: &[u8]) -> Heading
     ensures { λ r. ⌜ toldHeading r ≡ heading (now (bytes .entry)) ⌝ }
 {
     if bytes[Envelope::VERSION_PLACE] != Envelope::HEADER_VERSION {
-        return Heading::Refused(Fault::WrongVersion);
+        return Heading::Refused(Refusal {
+            fault: Fault::WrongVersion,
+            place: Envelope::VERSION_PLACE,
+        });
     }
     if flags::bad_flags(bytes[Envelope::FLAGS_PLACE]) {
-        return Heading::Refused(Fault::BadFlags);
+        return Heading::Refused(Refusal {
+            fault: Fault::BadFlags,
+            place: Envelope::FLAGS_PLACE,
+        });
     }
     if bad_variable_size(bytes[Envelope::VARIABLE_SIZE_PLACE]) {
-        return Heading::Refused(Fault::BadVariableSize);
+        return Heading::Refused(Refusal {
+            fault: Fault::BadVariableSize,
+            place: Envelope::VARIABLE_SIZE_PLACE,
+        });
     }
     Heading::Passed
 }
@@ -88,16 +99,19 @@ fn read_whole(bytes: &[u8]) -> Reading
     if place + Envelope::FIELD_SIZE != bytes.len() {
         return Reading::Refused(Refusal {
             fault: Fault::WrongLength,
+            place: Envelope::DATA_LENGTH_PLACE,
         });
     }
     match addressing_of(bytes, v) {
         FoundAddressing::Refused => Reading::Refused(Refusal {
             fault: Fault::BadAddresses,
+            place: Envelope::ADDRESSES_PLACE,
         }),
         FoundAddressing::Good(addressing) => {
             match integrity_of(bytes, flags::kind(bytes[Envelope::FLAGS_PLACE]), place) {
                 FoundIntegrity::Refused => Reading::Refused(Refusal {
                     fault: Fault::BadIntegrity,
+                    place,
                 }),
                 FoundIntegrity::Good(integrity) => {
                     let body = Part {

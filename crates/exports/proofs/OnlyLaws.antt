@@ -11,7 +11,7 @@ use Rattle.exports.specs.Envelopes.{ReadsForC, WritesForC, RewritesForC,
 use Rattle.exports.specs.Feeds.{Lent, TakesForC, EndsForC, RestartsForC, HoldsForC}
 use Rattle.exports.specs.Frames.{FrameLent, UnwrapsForC, WrapsForC, AcknowledgesForC}
 use Rattle.exports.specs.Goldens.{CountsForC, ChecksForC, FindsForC, EntersForC, StepsForC, ComparesForC, MakesForC}
-use Rattle.exports.specs.Verdicts.{JudgesForC}
+use Rattle.exports.specs.Verdicts.{JudgesForC, JudgesPlacesForC}
 
 only-that : {A : Type 0} (x : A) → Only₁ (λ (r : A). r ≡ x)
 only-that x a b p q = p ∙ sym q
@@ -63,6 +63,9 @@ only-makes-for-c m entry = only-those _ _
 
 pub only-judges-for-c : (bytes : List ℕ) → Only₂ (JudgesForC bytes)
 only-judges-for-c bytes = only-those _ _
+
+pub only-judges-places-for-c : (bytes : List ℕ) → Only₂ (JudgesPlacesForC bytes)
+only-judges-places-for-c bytes = only-those _ _
 
 pub only-takes-for-c : (entry : Lent) (piece : List ℕ) → Only₂ (TakesForC entry piece)
 only-takes-for-c entry piece = only-those _ _

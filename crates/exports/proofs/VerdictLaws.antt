@@ -1,46 +1,57 @@
--- The judge and the reader of the C interface agree: the lowest broken number fits its slot, and is the number that reading gives.
+-- The judge and the reader of the C interface agree: the lowest broken rule fits its slots, and has the number and the place that reading gives.
 -- That the two readers agree is a law of the crate `judge`; here it is only read in slots.
-use mathlib.Core.List.{List, []}
-use mathlib.Core.Path.{_≡_, refl, sym, ap, _∙_}
+use mathlib.Core.List.{List}
+use mathlib.Core.Path.{_≡_, refl, sym, ap, subst, _∙_}
 use Prim.Native.Nat.{ℕ, _<_, _^_}
 use native.Mathlib.Omega.{arith}
+use Rattle.envelope.proofs.PlaceLaws.{number-few, places-within}
 use Rattle.envelope.specs.Fields.{Answer, accepted, refused}
+use Rattle.envelope.specs.Promise.{Bytes}
 use Rattle.envelope.specs.Reading.{reading}
-use Rattle.judge.specs.Agreement.{readingNumber}
-use Rattle.judge.specs.Rules.{RuleAnswer, kept, broken, notJudged, RuleAnswers, judging, listed, brokenRules, lowestOf}
+use Rattle.judge.specs.Agreement.{refusalIn}
+use Rattle.judge.specs.Rules.{judging, brokenRules, LowestAnswer, lowestOf}
 use Rattle.judge.proofs.AgreementLaws.{readers-agree}
 use Rattle.exports.proofs.FitsLaws.{word-tells-its-slots}
 use Rattle.exports.specs.Envelopes.{readSlots}
-use Rattle.exports.specs.Verdicts.{judgeSlots, JudgeForCTellsReading}
-use Rattle.exports.specs.Word.{Slots, word, unword, plainSlots}
+use Rattle.exports.specs.Verdicts.{lowestSlots, judgeSlots, JudgeForCTellsReading}
+use Rattle.exports.specs.Word.{Slots, unword, Fits}
 
-listed-fits : (a : RuleAnswer) (n : ℕ) (rest : List ℕ) → n < 2 ^ 8 → lowestOf rest < 2 ^ 8 → lowestOf (listed a n rest) < 2 ^ 8
-listed-fits kept n rest h tail = tail
-listed-fits broken n rest h tail = h
-listed-fits notJudged n rest h tail = tail
+-- the same refusal in the slots of both
+record BothTell (a : Answer) : Type 0 where
+  reads : Fits (readSlots a)
+  judges : Fits (lowestSlots (refusalIn a))
+  number : lowestSlots (refusalIn a) .reading ≡ readSlots a .number
+  place : lowestSlots (refusalIn a) .value ≡ readSlots a .value
 
-lowest-fits : (j : RuleAnswers) → lowestOf (brokenRules j) < 2 ^ 8
-lowest-fits j =
-    listed-fits (j .least) 1 _ (omega arith)
-    (listed-fits (j .version) 2 _ (omega arith)
-    (listed-fits (j .flags) 3 _ (omega arith)
-    (listed-fits (j .variableSize) 4 _ (omega arith)
-    (listed-fits (j .length) 5 _ (omega arith)
-    (listed-fits (j .addresses) 6 _ (omega arith)
-    (listed-fits (j .integrity) 7 [] (omega arith) (omega arith)))))))
+both-tell : (bytes : List ℕ) (a : Answer) → Bytes bytes → reading bytes ≡ a → BothTell a
+both-tell bytes (accepted f) bs e =
+    record {
+      reads = record { number = omega arith; reading = omega arith; count = omega arith; value = omega arith };
+      judges = record { number = omega arith; reading = omega arith; count = omega arith; value = omega arith };
+      number = refl;
+      place = refl;
+    }
+both-tell bytes (refused r) bs e =
+    let few = number-few bytes r e in
+    let near = places-within bytes r bs e in
+    record {
+      reads = record { number = omega (arith, few); reading = omega arith; count = omega arith; value = omega (arith, near) };
+      judges = record { number = omega arith; reading = omega (arith, few); count = omega arith; value = omega (arith, near) };
+      number = refl;
+      place = refl;
+    }
 
-read-slots : (a : Answer) → readSlots a ≡ plainSlots (readingNumber a)
-read-slots (accepted f) = refl
-read-slots (refused r) = refl
+pub lowest-fits : (bytes : List ℕ) (l : LowestAnswer) → Bytes bytes → l ≡ lowestOf (brokenRules (judging bytes)) → lowestSlots l .value < 2 ^ 32
+lowest-fits bytes l bs e =
+    subst (λ (x : LowestAnswer). lowestSlots x .value < 2 ^ 32) (sym (e ∙ readers-agree bytes .1)) (both-tell bytes (reading bytes) bs refl .judges .value)
 
 pub judge-for-c-tells-reading : JudgeForCTellsReading
-judge-for-c-tells-reading bytes fields after answer judgement verdicts reads judges =
-    let agree : lowestOf (brokenRules (judging bytes)) ≡ readingNumber (reading bytes) = readers-agree bytes .1 in
-    let fits = lowest-fits (judging bytes) in
-    let told : unword judgement ≡ judgeSlots (judging bytes) =
-    ap unword (judges .0)
-    ∙ word-tells-its-slots (judgeSlots (judging bytes)) (record { number = omega arith; reading = fits; count = omega arith; value = omega arith }) in
-    let answered : unword answer ≡ plainSlots (readingNumber (reading bytes)) =
-    ap unword (reads .0 ∙ ap word (read-slots (reading bytes)))
-    ∙ word-tells-its-slots (plainSlots (readingNumber (reading bytes))) (record { number = omega (arith, agree, fits); reading = omega arith; count = omega arith; value = omega arith }) in
-    ap (λ (s : Slots). s .reading) told ∙ agree ∙ sym (ap (λ (s : Slots). s .number) answered)
+judge-for-c-tells-reading bytes fields after answer judgement verdicts bs reads judges =
+    let both = both-tell bytes (reading bytes) bs refl in
+    let agree : judgeSlots (judging bytes) ≡ lowestSlots (refusalIn (reading bytes)) = ap lowestSlots (readers-agree bytes .1) in
+    let judged : unword judgement ≡ lowestSlots (refusalIn (reading bytes)) =
+    ap unword (judges .0) ∙ word-tells-its-slots (judgeSlots (judging bytes)) (subst Fits (sym agree) (both .judges)) ∙ agree in
+    let answered : unword answer ≡ readSlots (reading bytes) = ap unword (reads .0) ∙ word-tells-its-slots (readSlots (reading bytes)) (both .reads) in (
+      ap (λ (s : Slots). s .reading) judged ∙ both .number ∙ sym (ap (λ (s : Slots). s .number) answered),
+      ap (λ (s : Slots). s .value) judged ∙ both .place ∙ sym (ap (λ (s : Slots). s .value) answered),
+    )

@@ -6,14 +6,17 @@ use mathlib.Core.List.{List, [], _∷_}
 use mathlib.Core.Path.{_≡_}
 use lib.Dec.{eqb, ltb}
 use lib.ListN.{length, getD, take}
+use Rattle.envelope.specs.Fields.{Refusal, refusalBy}
+use Rattle.envelope.specs.Places.{placeFor}
 use Rattle.feed.specs.Feeding.{Stand, inside, whole, refused, State, fresh, Finding, nothing, message, FeedOutcome, taking, ending, holding}
+use Rattle.feed.specs.Places.{inRoom, CountTellsPlace}
 use Rattle.feed.specs.Told.{toldFeed, toldFound, Fresh, Takes, Ends, Holds}
-use Rattle.feed.specs.Verdict.{reads, tooLong, cut, numberOf}
+use Rattle.feed.specs.Verdict.{room, reads, tooLong, cut, feedNumbers, numberOf}
 use Rattle.feed.specs.declared.feeder.Ended.{Ended}
 use Rattle.feed.specs.declared.feeder.Feed.{Feed}
 use Rattle.feed.specs.declared.feeder.Taken.{Taken}
 use Rattle.exports.specs.Envelopes.{fieldNumbers}
-use Rattle.exports.specs.Word.{Slots, slots, word, sized}
+use Rattle.exports.specs.Word.{Slots, slots, word, sized, numbersSlots}
 
 -- ---- the state: the bytes kept, and two numbers, how many of them are in and how the feed stands
 
@@ -23,24 +26,31 @@ standingNumber inside = 0
 standingNumber whole = 255
 standingNumber (refused f) = numberOf f
 
+-- a refusal of reading: its place is told by its number and how many bytes are in
+abbrev pub refusalFor : (number count : ℕ) → Refusal
+refusalFor number count = refusalBy number (placeFor number (inRoom count))
+
 -- 0 is inside, 1 to 7, 51 and 52 are refusals, and any other number is whole
-abbrev pub standingFor : ℕ → Stand
-standingFor n =
-    cond (eqb n 0) inside
-    (cond (ltb n 8) (refused (reads (record { number = n }))) (cond (eqb n 51) (refused tooLong) (cond (eqb n 52) (refused cut) whole)))
+abbrev pub standingFor : (number count : ℕ) → Stand
+standingFor number count =
+    cond (eqb number 0) inside
+    (cond (ltb number 8) (refused (reads (refusalFor number count)))
+    (cond (eqb number 51) (refused tooLong)
+    (cond (eqb number 52) (refused cut)
+    whole)))
 
 abbrev pub stateNumbers : State → List ℕ
 stateNumbers s = s .count ∷ standingNumber (s .stand) ∷ []
 
 abbrev pub stateFor : (kept numbers : List ℕ) → State
-stateFor kept numbers = record { kept = kept; count = getD numbers 0 0; stand = standingFor (getD numbers 1 0) }
+stateFor kept numbers = record { kept = kept; count = getD numbers 0 0; stand = standingFor (getD numbers 1 0) (getD numbers 0 0) }
 
--- ---- take: the count is that of the bytes used, the value the message's size, 0 where none is found
+-- ---- take: the count is that of the bytes used, the value the message's size, 0 where none is found, or a refusal's place
 
 abbrev pub foundSlots : Finding → ℕ → Slots
 foundSlots nothing used = slots 0 0 used 0
 foundSlots (message n f) used = slots 0 0 used n
-foundSlots (refused f) used = slots (numberOf f) 0 used 0
+foundSlots (refused f) used = numbersSlots (feedNumbers f) used
 
 abbrev pub fieldsFound : Finding → List ℕ → List ℕ
 fieldsFound nothing entry = entry
@@ -96,9 +106,22 @@ HoldsForC kept numbers r = r ≡ word (sized (length (holding (stateFor kept num
 abbrev pub Stores : (kept numbers : List ℕ) → Feed → Type 0
 Stores kept numbers f = stateFor kept numbers ≡ toldFeed f
 
+-- storage of 510 bytes; whatever it holds, the place of a refusal there is told by the count
+abbrev pub StorageTellsPlace : Type 0
+StorageTellsPlace = (kept numbers : List ℕ) (f : Feed) → Stores kept numbers f → CountTellsPlace (toldFeed f)
+
 -- what a call leaves in the storage is the state that the next one finds there
 abbrev pub StorageKeepsTheState : Type 0
-StorageKeepsTheState = (f : Feed) → Stores (f .kept) (stateNumbers (toldFeed f)) f
+StorageKeepsTheState = (f : Feed) → CountTellsPlace (toldFeed f) → Stores (f .kept) (stateNumbers (toldFeed f)) f
+
+abbrev pub TakeLeavesTheState : Type 0
+TakeLeavesTheState =
+    (f : Feed) (kept numbers piece : List ℕ) (t : Taken) → length kept ≡ room → Stores kept numbers f → Takes f piece t
+    → Stores (t .feed .kept) (stateNumbers (toldFeed (t .feed))) (t .feed)
+
+abbrev pub EndLeavesTheState : Type 0
+EndLeavesTheState =
+    (f : Feed) (kept numbers : List ℕ) (e : Ended) → Stores kept numbers f → Ends f e → Stores (e .feed .kept) (stateNumbers (toldFeed (e .feed))) (e .feed)
 
 -- a call leaves in the storage what `Feed::take` makes of the feed there, and tells what that finds; so the theorems about runs of `take` hold for C
 abbrev pub TakeForCIsTake : Type 0

@@ -1,9 +1,9 @@
 -- The answer word of the C interface: four slots in a number of 64 bits, 8, 8, 16 and 32 bits wide from the lowest on.
--- The first is 0 for done or a refusal's number, the second the number that reading gave, the others go with the operation.
+-- The first is 0 for done or a refusal's number, the second the number that reading gave, the last a refusal's place; else the others go with the operation.
 use Prim.Native.Nat.{ℕ, _+_, _*_, _/_, _%_, _<_, _^_}
 use mathlib.Core.Path.{_≡_}
 use Rattle.envelope.specs.Fields.{Refusal}
-use Rattle.envelope.specs.Refusals.{Refused, RefusalNumbers, numbersOf}
+use Rattle.envelope.specs.Refusals.{Refused, RefusalNumbers, numbersOf, readingNumbers}
 
 pub record Slots : Type 0 where
   pub number : ℕ
@@ -17,7 +17,7 @@ slots number reading count value = record { number = number; reading = reading; 
 unfoldable pub word : Slots → ℕ
 word s = s .number + s .reading * 256 + s .count * 65536 + s .value * 4294967296
 
--- ---- the usual answers; the value of a refusal is kept for a place, and is 0
+-- ---- the usual answers; the value of a refusal is the place that it passes on, 0 where it passes none on
 
 abbrev pub done : Slots
 done = slots 0 0 0 0
@@ -26,16 +26,16 @@ done = slots 0 0 0 0
 abbrev pub sized : ℕ → Slots
 sized n = slots 0 0 0 n
 
--- a refusal in which reading had no part; that of reading itself
+-- a refusal by its numbers, and a count
+abbrev pub numbersSlots : RefusalNumbers → ℕ → Slots
+numbersSlots n count = slots (n .number) (n .reading) count (n .place)
+
+-- one in which reading had no part; that of reading itself; that of a golden file or a frame
 abbrev pub plainSlots : ℕ → Slots
 plainSlots n = slots n 0 0 0
 
 abbrev pub readingSlots : Refusal → Slots
-readingSlots r = plainSlots (r .number)
-
--- a refusal of a golden file or a frame by its two numbers, and a count
-abbrev pub numbersSlots : RefusalNumbers → ℕ → Slots
-numbersSlots n count = slots (n .number) (n .reading) count 0
+readingSlots r = numbersSlots (readingNumbers r) 0
 
 abbrev pub refusedWith : Refused → ℕ → Slots
 refusedWith r count = numbersSlots (numbersOf r) count

@@ -14,18 +14,18 @@ pub(crate) fn answer(number: u8, reading: u8, count: usize, value: usize) -> u64
     (number as u64) + (reading as u64) * 256 + (count as u64) * 65536 + (value as u64) * 4294967296
 }
 
-// A refusal by its two numbers, and a count. The value slot is kept for a place.
+// A refusal by its numbers, with its place in the value slot, and a count.
 pub(crate) fn refused_answer(numbers: Numbers, count: usize) -> u64
-    requires { ⌜ count < 2 ^ 16 ⌝ }
+    requires { ⌜ (count < 2 ^ 16) × (numbers .place < 2 ^ 32) ⌝ }
     ensures { λ r. ⌜ r ≡ word (numbersSlots (toldNumbers numbers) count) ⌝ }
 {
-    answer(numbers.number, numbers.reading, count, 0)
+    answer(numbers.number, numbers.reading, count, numbers.place)
 }
 
 // The refusal of reading itself.
 pub(crate) fn reading_answer(refusal: Refusal) -> u64
+    requires { ⌜ refusal .place < 2 ^ 32 ⌝ }
     ensures { λ r. ⌜ r ≡ word (readingSlots (toldRefusal refusal)) ⌝ }
 {
-    let fault = refusal.fault;
-    answer(fault.number(), 0, 0, 0)
+    refused_answer(Numbers::by_reading(refusal), 0)
 }

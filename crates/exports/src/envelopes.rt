@@ -90,6 +90,7 @@ pub extern "C" fn morlewen_rewrite(bytes: &[u8], buffer: &mut [u8]) -> u64
 }
 
 fn read_word(reading: Reading) -> u64
+    requires { ⌜ readSlots (told reading) .value < 2 ^ 32 ⌝ }
     ensures { λ r. ⌜ r ≡ word (readSlots (told reading)) ⌝ }
 {
     match reading {

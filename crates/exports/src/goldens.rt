@@ -96,7 +96,7 @@ pub extern "C" fn morlewen_make(message: &[u8], buffer: &mut [u8]) -> u64
 }
 
 fn count_word(counting: Counting) -> u64
-    requires { ⌜ countSlots (toldCounting counting) .count < 2 ^ 16 ⌝ }
+    requires { ⌜ (countSlots (toldCounting counting) .count < 2 ^ 16) × (countSlots (toldCounting counting) .value < 2 ^ 32) ⌝ }
     ensures { λ r. ⌜ r ≡ word (countSlots (toldCounting counting)) ⌝ }
 {
     match counting {
@@ -106,7 +106,7 @@ fn count_word(counting: Counting) -> u64
 }
 
 fn check_word(checking: Checking) -> u64
-    requires { ⌜ checkSlots (toldChecking checking) .count < 2 ^ 16 ⌝ }
+    requires { ⌜ (checkSlots (toldChecking checking) .count < 2 ^ 16) × (checkSlots (toldChecking checking) .value < 2 ^ 32) ⌝ }
     ensures { λ r. ⌜ r ≡ word (checkSlots (toldChecking checking)) ⌝ }
 {
     match checking {
@@ -126,6 +126,7 @@ fn find_word(finding: Finding) -> u64
 }
 
 fn line_word(found: Entry) -> u64
+    requires { ⌜ lineSlots (toldEntry found) .value < 2 ^ 32 ⌝ }
     ensures { λ r. ⌜ r ≡ word (lineSlots (toldEntry found)) ⌝ }
 {
     match found {
@@ -188,6 +189,7 @@ fn compare_word(comparison: Comparison) -> u64
 }
 
 fn make_word(making: Making) -> u64
+    requires { ⌜ makeSlots (toldMaking making) .value < 2 ^ 32 ⌝ }
     ensures { λ r. ⌜ r ≡ word (makeSlots (toldMaking making)) ⌝ }
 {
     match making {

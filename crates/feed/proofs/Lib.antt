@@ -10,6 +10,7 @@ pub mod SettlingLaws
 pub mod WeighedLaws
 pub mod FoundLaws
 pub mod RefusedLaws
+pub mod PlaceLaws
 pub mod FewLaws
 pub mod StopLaws
 pub mod BitsLaws

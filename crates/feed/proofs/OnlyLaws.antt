@@ -3,11 +3,11 @@
 use mathlib.Core.List.{List, []}
 use mathlib.Core.Path.{_≡_, refl, ap, sym, _∙_}
 use Prim.Native.Nat.{ℕ}
-use Rattle.envelope.proofs.OnlyLaws.{only-by-telling, untoldRefusal, untold-refusal, untoldEnvelope, untold-envelope}
+use Rattle.envelope.proofs.OnlyLaws.{only-by-telling, untoldRefusal, untold-refusal, only-told-numbers, untoldEnvelope, untold-envelope}
 use Rattle.envelope.specs.Promise.{Only₁, Only₂}
 use Rattle.feed.specs.Feeding.{Stand, inside, whole, refused, State, fresh, Finding, nothing, message, FeedOutcome, taking, ending}
 use Rattle.feed.specs.Told.{toldFeedRefusal, toldStanding, toldFeed, toldFound, toldStep, toldTaken, toldEnded, NumbersFeedRefusal, Fresh, Takes, Ends, Advances, Closes, Holds}
-use Rattle.feed.specs.Verdict.{FeedRefusal, reads, tooLong, cut}
+use Rattle.feed.specs.Verdict.{FeedRefusal, reads, tooLong, cut, feedNumbers}
 use Rattle.feed.specs.declared.refusal.Refusal.{Refusal as CodeRefusal}
 use Rattle.feed.specs.declared.refusal.Refusal.the-variants.{MessageRefused, TooLong, Cut}
 use Rattle.feed.specs.declared.feeder.Ended.{Ended}
@@ -83,7 +83,7 @@ pub only-holds : (kept : List ℕ) (count : ℕ) (standing : Standing) → Only�
 only-holds kept count standing a b p q = p ∙ sym q
 
 pub only-numbers-feed-refusal : (f : CodeRefusal) → Only₁ (NumbersFeedRefusal f)
-only-numbers-feed-refusal f a b p q = p ∙ sym q
+only-numbers-feed-refusal f = only-told-numbers (feedNumbers (toldFeedRefusal f))
 
 -- `advance`: the answer and the bytes lent
 abbrev untoldStep : FeedOutcome → Step

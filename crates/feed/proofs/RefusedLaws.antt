@@ -12,6 +12,7 @@ use lib.Seq.{length-take-le}
 use Rattle.envelope.proofs.AnnouncingLaws as announced
 use Rattle.envelope.proofs.ReadingLaws.{Completed, accepts-it, refuses-6, refuses-7}
 use Rattle.envelope.specs.Announcing.{AnnouncementAnswer, unfinished, refused as refusedHeading, announces, announcing}
+use Rattle.envelope.specs.Fields.{Refusal}
 use Rattle.envelope.specs.Layout.{headerSize}
 use Rattle.envelope.specs.Reading.{reading}
 use Rattle.feed.specs.Feeding.{Stand, inside, whole, refused, State, fresh, begun, closing, byteIn}
@@ -47,10 +48,10 @@ expects p v h = go (announcing p) refl
     go (refusedHeading r) e = absurd (more-not-refused (reads r) (sym v ∙ verdict-by p (refusedHeading r) e))
     go (announces w) e = by w e (weigh p w e)
 
-heading-number : (n : ℕ) → announced.HeadingNumber n → HeadingNumber n
-heading-number n (announced.as-2 e) = is-2 e
-heading-number n (announced.as-3 e) = is-3 e
-heading-number n (announced.as-4 e) = is-4 e
+heading-number : (r : Refusal) → announced.HeadingRefusal r → HeadingNumber (r .number)
+heading-number r (announced.as-2 e) = is-2 (ap (λ (q : Refusal). q .number) e)
+heading-number r (announced.as-3 e) = is-3 (ap (λ (q : Refusal). q .number) e)
+heading-number r (announced.as-4 e) = is-4 (ap (λ (q : Refusal). q .number) e)
 
 bad-heading : (m : List ℕ) (f : FeedRefusal) → verdict m ≡ refused f → length m ≡ headerSize → HeadingNumber (numberOf f)
 bad-heading m f v h = go (announcing m) refl
@@ -63,7 +64,7 @@ bad-heading m f v h = go (announcing m) refl
     go : (a : AnnouncementAnswer) → announcing m ≡ a → HeadingNumber (numberOf f)
     go unfinished e = absurd (more-not-refused f (sym (verdict-by m unfinished e) ∙ v))
     go (refusedHeading r) e =
-        rw (same-refusal f (reads r) (sym v ∙ verdict-by m (refusedHeading r) e)) (heading-number (r .number) (announced.refused-number m r e))
+        rw (same-refusal f (reads r) (sym v ∙ verdict-by m (refusedHeading r) e)) (heading-number r (announced.refused-heading m r e))
     go (announces w) e = by w e (weigh m w e)
 
 bad-whole : (m : List ℕ) (f : FeedRefusal) → verdict m ≡ refused f → length m ≤ room → announcing m ≡ announces (length m) → WholeNumber (numberOf f)
@@ -114,13 +115,13 @@ record Sound (s : State) : Type 0 where
   quiet : 0 < begun s → verdict (take (begun s) (s .kept)) ≡ more
   told : (f : FeedRefusal) → s .stand ≡ refused f → Settles (take (s .count) (s .kept)) (numberOf f)
 
-inside-not-refused : (f : FeedRefusal) → inside ≡ refused f → ⊥
+pub inside-not-refused : (f : FeedRefusal) → inside ≡ refused f → ⊥
 inside-not-refused f e = let z : _≡_ {A = ℕ} 0 1 = cc in omega arith
 
 pub whole-not-refused : (f : FeedRefusal) → whole ≡ refused f → ⊥
 whole-not-refused f e = let z : _≡_ {A = ℕ} 0 1 = cc in omega arith
 
-same-refused : (f g : FeedRefusal) → _≡_ {A = Stand} (refused f) (refused g) → f ≡ g
+pub same-refused : (f g : FeedRefusal) → _≡_ {A = Stand} (refused f) (refused g) → f ≡ g
 same-refused f g e = cc
 
 sound-after : (v : Verdict) (k : List ℕ) (n : ℕ) → verdict (take n k) ≡ v → length k ≡ room

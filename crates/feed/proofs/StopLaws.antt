@@ -20,10 +20,10 @@ use Rattle.feed.proofs.UseLaws.{refusal-not-nothing}
 
 -- ---- a refusal that is told stands
 
-abbrev Stands : FeedOutcome → FeedRefusal → Type 0
+abbrev pub Stands : FeedOutcome → FeedRefusal → Type 0
 Stands o f = o .finding ≡ refused f → o .state .stand ≡ refused f
 
-still-stands : (s : State) (f : FeedRefusal) → Stands (still s) f
+pub still-stands : (s : State) (f : FeedRefusal) → Stands (still s) f
 still-stands s f = go (s .stand) refl
   where
     go : (t : Stand) → s .stand ≡ t → standing (s .stand) ≡ refused f → s .stand ≡ refused f
@@ -40,7 +40,7 @@ closing-stands more k n f later h = h
 closing-stands (complete g) k n f later h = λ e. cc
 closing-stands (refused g) k n f later h = λ e. cc
 
-taking-stands : (piece : List ℕ) (s : State) (f : FeedRefusal) → Stands (taking s piece) f
+pub taking-stands : (piece : List ℕ) (s : State) (f : FeedRefusal) → Stands (taking s piece) f
 taking-stands [] s f = rw (taking-nil s) (still-stands s f)
 taking-stands (x ∷ l) s f = go (λ t. taking-stands l t f) (byte s x)
   where
@@ -54,7 +54,7 @@ end-stands inside (suc n) s f = λ e. cc
 end-stands whole m s f = still-stands s f
 end-stands (refused g) m s f = still-stands s f
 
-ending-stands : (s : State) (f : FeedRefusal) → Stands (ending s) f
+pub ending-stands : (s : State) (f : FeedRefusal) → Stands (ending s) f
 unfolding ending
 ending-stands s f = end-stands (s .stand) (begun s) s f
 

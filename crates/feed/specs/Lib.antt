@@ -6,4 +6,5 @@ pub mod Helpers
 pub mod Cutting
 pub mod Messages
 pub mod Stopping
+pub mod Places
 pub mod TwoBits

@@ -3,9 +3,11 @@
 use Prim.Native.Nat.{ℕ}
 use mathlib.Core.List.{List}
 use mathlib.Core.Path.{_≡_}
+use Rattle.envelope.specs.Refusals.{toldNumbers}
 use Rattle.envelope.specs.Told.{toldRefusal, toldEnvelope}
+use Rattle.envelope.specs.declared.refusals.Numbers.{Numbers}
 use Rattle.feed.specs.Feeding.{Stand, inside, whole, refused, State, fresh, Finding, nothing, message, FeedOutcome, taking, ending, holding}
-use Rattle.feed.specs.Verdict.{FeedRefusal, reads, tooLong, cut, numberOf}
+use Rattle.feed.specs.Verdict.{FeedRefusal, reads, tooLong, cut, feedNumbers}
 use Rattle.feed.specs.declared.refusal.Refusal.{Refusal as CodeRefusal}
 use Rattle.feed.specs.declared.refusal.Refusal.the-variants.{MessageRefused, TooLong, Cut}
 use Rattle.feed.specs.declared.feeder.Ended.{Ended}
@@ -50,9 +52,9 @@ toldTaken t = record { state = toldFeed (t .feed); used = t .used; finding = tol
 abbrev pub toldEnded : Ended → FeedOutcome
 toldEnded e = record { state = toldFeed (e .feed); used = 0; finding = toldFound (e .found) }
 
--- what `Refusal::number` promises
-abbrev pub NumbersFeedRefusal : CodeRefusal → ℕ → Type 0
-NumbersFeedRefusal f r = r ≡ numberOf (toldFeedRefusal f)
+-- what `Refusal::numbers` promises
+abbrev pub NumbersFeedRefusal : CodeRefusal → Numbers → Type 0
+NumbersFeedRefusal f r = toldNumbers r ≡ feedNumbers (toldFeedRefusal f)
 
 -- what `Feed::new` and `Feed::restart` promise
 abbrev pub Fresh : Feed → Type 0

@@ -10,6 +10,7 @@ use Rattle.envelope.specs.Announcing as announced
 use Rattle.envelope.specs.Fields.{Fields, Refusal, Answer, accepted}
 use Rattle.envelope.specs.Fields as read
 use Rattle.envelope.specs.Reading.{reading}
+use Rattle.envelope.specs.Refusals.{plainly, RefusalNumbers, numbersOf, readingNumbers}
 
 -- the longest message that a feed takes
 abbrev pub room : ℕ
@@ -21,10 +22,14 @@ pub data FeedRefusal : Type 0 where
   tooLong : FeedRefusal
   cut : FeedRefusal
 
+-- in numbers: 51 and 52 have no place
+abbrev pub feedNumbers : FeedRefusal → RefusalNumbers
+feedNumbers (reads r) = readingNumbers r
+feedNumbers tooLong = numbersOf (plainly 51)
+feedNumbers cut = numbersOf (plainly 52)
+
 abbrev pub numberOf : FeedRefusal → ℕ
-numberOf (reads r) = r .number
-numberOf tooLong = 51
-numberOf cut = 52
+numberOf f = feedNumbers f .number
 
 pub data Verdict : Type 0 where
   more : Verdict

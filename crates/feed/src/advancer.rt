@@ -6,7 +6,8 @@ ghost use lib.ListN.{length};
 ghost use Rattle.feed.specs.Feeding.{inside, begunBy, taking};
 ghost use Rattle.feed.specs.Helpers.{opened, goesOn, Expected, Stretch};
 ghost use Rattle.feed.specs.Messages.{Few};
-ghost use Rattle.feed.specs.Told.{toldStanding, toldStep, Advances};
+ghost use Rattle.feed.specs.Places.{PointsShort};
+ghost use Rattle.feed.specs.Told.{toldStanding, stateOf, toldStep, Advances};
 ghost use Rattle.feed.specs.Verdict.{room};
 use crate::feeder::Feed;
 use crate::filler::fill;
@@ -22,9 +23,9 @@ use envelope::Envelope;
 use envelope::announce;
 
 // `Feed::take` where the feed is lent in parts: the bytes kept, how many of them are in, and what stands.
-// What follows for a caller is said too: no call uses more bytes than the longest message has, or finds a longer one.
+// What follows for a caller is said too: no call uses more bytes than the longest message has or finds a longer one, nor, where the count tells the place of what stands, points past it.
 pub fn advance(kept: &mut [u8; Feed::ROOM], count: usize, standing: Standing, piece: &[u8]) -> Step
-    ensures { λ r. ⌜ Advances (now (kept .entry)) count standing (now (piece .entry)) r (now (kept .exit)) × Few (toldStep r (now (kept .exit))) ⌝ }
+    ensures { λ r. ⌜ Advances (now (kept .entry)) count standing (now (piece .entry)) r (now (kept .exit)) × Few (toldStep r (now (kept .exit))) × PointsShort (stateOf (now (kept .entry)) count standing) (toldStep r (now (kept .exit))) ⌝ }
 {
     if piece.len() == 0 {
         return stay(count, standing);

@@ -1,6 +1,7 @@
-// What a feed refuses, in numbers: those of reading passed on whole, and two of its own.
+// What a feed refuses: the refusals of reading, passed on whole, and two of its own.
 // At the 17th byte 2, 3, 4 and 51, with the last announced byte 6 and 7, at the end 52.
 ghost use Rattle.feed.specs.Told.{NumbersFeedRefusal};
+use envelope::Numbers;
 
 pub enum Refusal {
     // 2, 3, 4, 6 and 7; 1 and 5 only in a feed that no calls lead to
@@ -12,17 +13,14 @@ pub enum Refusal {
 }
 
 impl Refusal {
-    // The number of the table of refusals.
-    pub fn number(self) -> u8
+    // The numbers of the table of refusals, with the place in the message.
+    pub fn numbers(self) -> Numbers
         ensures { λ r. ⌜ NumbersFeedRefusal self r ⌝ }
     {
         match self {
-            Refusal::MessageRefused(refusal) => {
-                let fault = refusal.fault;
-                fault.number()
-            }
-            Refusal::TooLong => 51,
-            Refusal::Cut => 52,
+            Refusal::MessageRefused(refusal) => Numbers::by_reading(refusal),
+            Refusal::TooLong => Numbers::plainly(51),
+            Refusal::Cut => Numbers::plainly(52),
         }
     }
 }

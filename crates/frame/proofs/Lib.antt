@@ -3,6 +3,8 @@ pub mod UnwrapLaws
 pub mod WrapLaws
 pub mod RoundTripLaws
 pub mod SizeLaws
+pub mod PointLaws
+pub mod PassLaws
 pub mod CaptureLaws
 pub mod DetectLaws
 pub mod OnlyLaws

@@ -5,5 +5,6 @@ pub mod Unwrapping
 pub mod Capturing
 pub mod Wrapping
 pub mod Sizes
+pub mod Passing
 pub mod RoundTrips
 pub mod Detecting

@@ -7,6 +7,8 @@ pub mod ComparingLaws
 pub mod FindingLaws
 pub mod SteppingLaws
 pub mod FewLaws
+pub mod PointLaws
+pub mod PassLaws
 pub mod MakingLaws
 pub mod RefusalLaws
 pub mod OnlyLaws

@@ -9,7 +9,8 @@ use borrow.Author.Tests.{eq-eqb, le-ltb, lt-leb, ltb-false}
 use lib.Dec.{ltb}
 use lib.ListN.{length, take, drop, getD, replicate}
 use lib.Seq.{take-all, take-append-seam, drop-append-seam, drop-append-add}
-use Rattle.envelope.proofs.ReadingLaws.{accepted-least, long-not-1}
+use Rattle.envelope.proofs.PlaceLaws.{long-not-1}
+use Rattle.envelope.proofs.ReadingLaws.{accepted-least}
 use Rattle.envelope.proofs.RuleLaws.{twoAt-is}
 use Rattle.envelope.proofs.WrittenLaws.{two-back}
 use Rattle.envelope.specs.Fields.{Fields, Refusal, Answer, accepted}
@@ -170,4 +171,4 @@ never-too-short f n x l e one =
     let b = bad-reading (badLength (storedLength r)) (notClear r) (reading (messageOf r)) x e in
     let low = length-least (storedLength r) (b .0) in
     let high = length-most (storedLength r) (b .0) in
-    long-not-1 (messageOf r) (rw (message-long f n l high) low) (b .1 ∙ λ i. envelope.refused (record { number = one i }))
+    long-not-1 (messageOf r) x (rw (message-long f n l high) low) (b .1) one

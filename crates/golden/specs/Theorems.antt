@@ -1,4 +1,4 @@
--- What users of a golden file rely on. Each statement is a type here; the proofs stand in proofs/ (WalkLaws, SteppingLaws, CheckedLaws, FoundLaws, SameLaws, MadeLaws, FewLaws, KeptLaws, DemandLaws).
+-- What users of a golden file rely on. Each statement is a type here; the proofs stand in proofs/ (WalkLaws, SteppingLaws, CheckedLaws, FoundLaws, SameLaws, MadeLaws, FewLaws, PointLaws, PassLaws, KeptLaws, DemandLaws).
 -- `f` and `g` are files, `n` counts records.
 use Prim.Native.Nat.{ℕ, suc, _+_, _*_, _≤_, _<_}
 use mathlib.Core.Bool.{true, false}
@@ -10,11 +10,12 @@ use lib.ListN.{length}
 use Rattle.envelope.specs.AnyWindow.{TwoAndTwoAt, OneDifference}
 use Rattle.envelope.specs.Demand3.{DeclaresCrc, Window, SameOutside}
 use Rattle.envelope.specs.Fields.{Span, Fields, Refusal, accepted}
+use Rattle.envelope.specs.Fields as envelope
 use Rattle.envelope.specs.Layout.{largestMessage}
 use Rattle.envelope.specs.Numbers.{byteAt}
 use Rattle.envelope.specs.Promise.{Bytes}
 use Rattle.envelope.specs.Reading.{reading}
-use Rattle.envelope.specs.Refusals.{Refused, plainly, passingOn}
+use Rattle.envelope.specs.Refusals.{Refused, plainly, passingOn, placeIn}
 use Rattle.envelope.specs.TwoBits.{bitsApart, summed, fieldOf}
 use Rattle.golden.specs.Checking.{CheckAnswer, counted, checking}
 use Rattle.golden.specs.Checking as check
@@ -22,9 +23,10 @@ use Rattle.golden.specs.Comparing.{comparing, CompareAnswer, same, diffe
 use Rattle.golden.specs.File.{mostRecords, badFile, countOf, recordAt, judgedAt}
 use Rattle.golden.specs.Finding.{NameFields, hasName, nameOf, FindAnswer, found, finding}
 use Rattle.golden.specs.Finding as find
-use Rattle.golden.specs.Listing.{CountAnswer, counting}
+use Rattle.golden.specs.Listing.{CountAnswer, counting, EntryAnswer, line, entryAt}
 use Rattle.golden.specs.Listing as listing
-use Rattle.golden.specs.Making.{made, refused, toldMaking, Makes}
+use Rattle.golden.specs.Making.{MakeAnswer, made, refused, making, toldMaking, Makes}
+use Rattle.golden.specs.Making as make
 use Rattle.golden.specs.Record.{recordSize, headSize, messageRoom, messageOf, good, bad}
 use Rattle.golden.specs.Stepping.{StepAnswer, message, end, stepOf, stepAt, nextAfter, toldReached, storedMessage}
 use Rattle.golden.specs.Stepping as step
@@ -194,6 +196,86 @@ differenceTotal (refused r) = 0
 
 abbrev pub CompareTotalsFew : Type 0
 CompareTotalsFew = (f : List ℕ) (n : ℕ) (radio : List ℕ) → Bytes radio → differenceTotal (answerToComparing (comparing f n radio)) ≤ largestMessage
+
+-- ---- the place that a refusal passes on is no larger than a message is long: a record's, or the longest there is
+
+abbrev pub countPlace : CountAnswer → ℕ
+countPlace (listing.counted n) = 0
+countPlace (listing.refused r) = placeIn r
+
+abbrev pub CountPointsNowhere : Type 0
+CountPointsNowhere = (f : List ℕ) → countPlace (counting f) ≡ 0
+
+abbrev pub checkPlace : CheckAnswer → ℕ
+checkPlace (counted n) = 0
+checkPlace (check.refused n r) = placeIn r
+
+abbrev pub CheckPointsShort : Type 0
+CheckPointsShort = (f : List ℕ) → checkPlace (checking f) ≤ messageRoom
+
+abbrev pub findPlace : FindAnswer → ℕ
+findPlace (found n opened) = 0
+findPlace (find.refused r opened) = placeIn r
+
+abbrev pub FindPointsShort : Type 0
+FindPointsShort = (f : List ℕ) (name : NameFields) → findPlace (finding f name) ≤ messageRoom
+
+abbrev pub stepPlace : StepAnswer → ℕ
+stepPlace (step.message part) = 0
+stepPlace (step.refused r) = placeIn r
+stepPlace end = 0
+
+abbrev pub StepPointsShort : Type 0
+StepPointsShort = (f : List ℕ) (n : ℕ) → stepPlace (stepAt f n) ≤ messageRoom
+
+abbrev pub entryPlace : EntryAnswer → ℕ
+entryPlace (line messageType number size) = 0
+entryPlace (listing.refused r) = placeIn r
+
+abbrev pub EntryPointsShort : Type 0
+EntryPointsShort = (f : List ℕ) (n : ℕ) → entryPlace (entryAt f n) ≤ messageRoom
+
+abbrev pub comparePlace : CompareAnswer → ℕ
+comparePlace same = 0
+comparePlace (different n) = 0
+comparePlace (refused r) = placeIn r
+
+abbrev pub ComparePointsWithin : Type 0
+ComparePointsWithin = (f : List ℕ) (n : ℕ) (radio : List ℕ) → Bytes radio → comparePlace (answerToComparing (comparing f n radio)) ≤ largestMessage
+
+abbrev pub makePlace : MakeAnswer → ℕ
+makePlace made = 0
+makePlace (make.refused r) = placeIn r
+
+abbrev pub MakePointsShort : Type 0
+MakePointsShort = (m : List ℕ) (room : ℕ) → makePlace (making m room) ≤ messageRoom
+
+-- ---- a refusal of reading is passed on whole: it is the one that reading gives of that message, its place too
+
+abbrev pub CheckPassesOn : Type 0
+CheckPassesOn =
+    (f : List ℕ) (n number : ℕ) (r : Refusal) → checking f ≡ check.refused n (passingOn number r) → reading (messageOf (recordAt f n)) ≡ envelope.refused r
+
+abbrev pub FindPassesOn : Type 0
+FindPassesOn =
+    (f : List ℕ) (name : NameFields) (n number : ℕ) (r : Refusal) → finding f name ≡ find.refused (passingOn number r) (n + 1)
+    → reading (messageOf (recordAt f n)) ≡ envelope.refused r
+
+abbrev pub StepPassesOn : Type 0
+StepPassesOn = (f : List ℕ) (n number : ℕ) (r : Refusal) → stepAt f n ≡ step.refused (passingOn number r) → reading (messageOf (recordAt f n)) ≡ envelope.refused r
+
+abbrev pub EntryPassesOn : Type 0
+EntryPassesOn = (f : List ℕ) (n number : ℕ) (r : Refusal) → entryAt f n ≡ listing.refused (passingOn number r) → reading (messageOf (recordAt f n)) ≡ envelope.refused r
+
+-- by 25 of the record's message, by 31 of the radio's
+abbrev pub ComparePassesOn : Type 0
+ComparePassesOn =
+    (f : List ℕ) (n : ℕ) (radio : List ℕ) (r : Refusal)
+    → (answerToComparing (comparing f n radio) ≡ refused (passingOn 25 r) → reading (messageOf (recordAt f n)) ≡ envelope.refused r)
+    × (answerToComparing (comparing f n radio) ≡ refused (passingOn 31 r) → reading radio ≡ envelope.refused r)
+
+abbrev pub MakePassesOn : Type 0
+MakePassesOn = (m : List ℕ) (room number : ℕ) (r : Refusal) → making m room ≡ make.refused (passingOn number r) → reading m ≡ envelope.refused r
 
 -- ---- a refusal leaves what was lent as it was
 

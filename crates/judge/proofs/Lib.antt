@@ -5,3 +5,4 @@ pub mod StepLaws
 pub mod VerdictLaws
 pub mod AgreementLaws
 pub mod OnlyLaws
+pub mod LowestLaws

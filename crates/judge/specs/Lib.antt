@@ -3,3 +3,4 @@ pub mod Quotient
 pub mod Rules
 pub mod Told
 pub mod Agreement
+pub mod Helpers

@@ -3,14 +3,17 @@
 use mathlib.Core.List.{List}
 use mathlib.Core.Path.{_≡_}
 use Prim.Native.Nat.{ℕ}
-use Rattle.judge.specs.Rules.{RuleAnswer, kept, broken, notJudged, RuleAnswers, judging, brokenRules, lowestOf}
+use Rattle.envelope.specs.Told.{toldRefusal}
+use Rattle.judge.specs.Rules.{RuleAnswer, kept, broken, notJudged, RuleAnswers, judging, brokenRules, LowestAnswer, noneBroken, lowest, lowestOf}
 use Rattle.judge.specs.declared.judging.Judging.{Judging}
+use Rattle.judge.specs.declared.judging.Lowest.{Lowest}
+use Rattle.judge.specs.declared.judging.Lowest.the-variants.{NoneBroken, Rule}
 use Rattle.judge.specs.declared.judging.Verdict.{Verdict}
 use Rattle.judge.specs.declared.judging.Verdict.the-variants.{Kept, Broken, NotJudged}
 
 abbrev pub toldVerdict : Verdict → RuleAnswer
 toldVerdict Kept = kept
-toldVerdict Broken = broken
+toldVerdict (Broken place) = broken place
 toldVerdict NotJudged = notJudged
 
 abbrev pub toldJudging : Judging → RuleAnswers
@@ -29,6 +32,10 @@ toldJudging j =
 abbrev pub Judges : List ℕ → Judging → Type 0
 Judges bytes r = toldJudging r ≡ judging bytes
 
--- what `Judging::lowest` promises: the lowest broken number, 0 where none is broken
-abbrev pub TellsLowest : Judging → ℕ → Type 0
-TellsLowest j r = r ≡ lowestOf (brokenRules (toldJudging j))
+abbrev pub toldLowest : Lowest → LowestAnswer
+toldLowest NoneBroken = noneBroken
+toldLowest (Rule r) = lowest (toldRefusal r)
+
+-- what `Judging::lowest` promises: the broken rule with the lowest number, as reading refuses it
+abbrev pub TellsLowest : Judging → Lowest → Type 0
+TellsLowest j r = toldLowest r ≡ lowestOf (brokenRules (toldJudging j))

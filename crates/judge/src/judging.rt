@@ -1,14 +1,18 @@
 // Judging a message by every rule of the table of reading, whatever the other rules find.
-// The answer has a verdict for each rule, and its lowest broken number is the one that reading gives.
+// The answer has a verdict for each rule, and its lowest broken one is the refusal that reading gives.
 ghost use mathlib.Core.Path.{_≡_};
-ghost use Rattle.judge.specs.Rules.{isBroken};
-ghost use Rattle.judge.specs.Told.{toldVerdict, Judges, TellsLowest};
+ghost use Rattle.envelope.specs.Told.{toldFault};
+ghost use Rattle.judge.specs.Helpers.{lowestWith};
+ghost use Rattle.judge.specs.Told.{toldVerdict, toldLowest, Judges, TellsLowest};
 use crate::rules;
+use envelope::Fault;
+use envelope::Refusal;
 
 // What became of a rule. One that was not judged counts as not broken.
 pub enum Verdict {
     Kept,
-    Broken,
+    // at this place of the message
+    Broken(usize),
     // its bytes are not all there, or, of rule 6, V is not 6 to 132
     NotJudged,
 }
@@ -38,9 +42,14 @@ pub fn judge(bytes: &[u8]) -> Judging
     }
 }
 
+// The broken rule with the lowest number, as reading refuses it.
+pub enum Lowest {
+    NoneBroken,
+    Rule(Refusal),
+}
+
 impl Judging {
-    // The lowest number of a broken rule, or 0 where none is broken.
-    pub fn lowest(self) -> u8
+    pub fn lowest(self) -> Lowest
         ensures { λ r. ⌜ TellsLowest self r ⌝ }
     {
         let least = self.least;
@@ -50,37 +59,23 @@ impl Judging {
         let length = self.length;
         let addresses = self.addresses;
         let integrity = self.integrity;
-        if is_broken(least) {
-            return 1;
-        }
-        if is_broken(version) {
-            return 2;
-        }
-        if is_broken(flags) {
-            return 3;
-        }
-        if is_broken(variable_size) {
-            return 4;
-        }
-        if is_broken(length) {
-            return 5;
-        }
-        if is_broken(addresses) {
-            return 6;
-        }
-        if is_broken(integrity) {
-            return 7;
-        }
-        0
+        let from_seven = lowest_with(integrity, Fault::BadIntegrity, Lowest::NoneBroken);
+        let from_six = lowest_with(addresses, Fault::BadAddresses, from_seven);
+        let from_five = lowest_with(length, Fault::WrongLength, from_six);
+        let from_four = lowest_with(variable_size, Fault::BadVariableSize, from_five);
+        let from_three = lowest_with(flags, Fault::BadFlags, from_four);
+        let from_two = lowest_with(version, Fault::WrongVersion, from_three);
+        lowest_with(least, Fault::TooShort, from_two)
     }
 }
 
-fn is_broken(verdict: Verdict) -> bool
-    ensures { λ r. ⌜ r ≡ isBroken (toldVerdict verdict) ⌝ }
+// This rule where it is broken, and else the lowest of those behind it.
+fn lowest_with(verdict: Verdict, fault: Fault, behind: Lowest) -> Lowest
+    ensures { λ r. ⌜ toldLowest r ≡ lowestWith (toldVerdict verdict) (toldFault fault) (toldLowest behind) ⌝ }
 {
     match verdict {
-        Verdict::Broken => true,
-        Verdict::Kept => false,
-        Verdict::NotJudged => false,
+        Verdict::Broken(place) => Lowest::Rule(Refusal { fault, place }),
+        Verdict::Kept => behind,
+        Verdict::NotJudged => behind,
     }
 }

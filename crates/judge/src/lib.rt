@@ -6,5 +6,6 @@ mod rules;
 
 pub use crate::division::divide;
 pub use crate::judging::Judging;
+pub use crate::judging::Lowest;
 pub use crate::judging::Verdict;
 pub use crate::judging::judge;

@@ -27,7 +27,7 @@ const KIND_UNASSIGNED: u8 = 3;
 pub(crate) fn least(bytes: &[u8]) -> Verdict
     ensures { λ r. ⌜ toldVerdict r ≡ leastRule (now (bytes .entry)) ⌝ }
 {
-    verdict(bytes.len() < Envelope::LEAST_SIZE)
+    verdict(bytes.len(), bytes.len() < Envelope::LEAST_SIZE)
 }
 
 // 2: header version is not 4.
@@ -37,7 +37,10 @@ pub(crate) fn version(bytes: &[u8]) -> Verdict
     if bytes.len() <= Envelope::VERSION_PLACE {
         return Verdict::NotJudged;
     }
-    verdict(bytes[Envelope::VERSION_PLACE] != Envelope::HEADER_VERSION)
+    verdict(
+        Envelope::VERSION_PLACE,
+        bytes[Envelope::VERSION_PLACE] != Envelope::HEADER_VERSION,
+    )
 }
 
 // 3: an unassigned flag bit is set, or integrity kind 3.
@@ -47,7 +50,10 @@ pub(crate) fn flags(bytes: &[u8]) -> Verdict
     if bytes.len() <= Envelope::FLAGS_PLACE {
         return Verdict::NotJudged;
     }
-    verdict(bad_flags(bytes[Envelope::FLAGS_PLACE]))
+    verdict(
+        Envelope::FLAGS_PLACE,
+        bad_flags(bytes[Envelope::FLAGS_PLACE]),
+    )
 }
 
 // 4: V is 1 to 5, or above 132.
@@ -57,7 +63,10 @@ pub(crate) fn variable_size(bytes: &[u8]) -> Verdict
     if bytes.len() < Envelope::HEADER_SIZE {
         return Verdict::NotJudged;
     }
-    verdict(bad_variable_size(size_in(bytes)))
+    verdict(
+        Envelope::VARIABLE_SIZE_PLACE,
+        bad_variable_size(size_in(bytes)),
+    )
 }
 
 // 5: 17 + V + D + 4 is not the number of bytes lent.
@@ -67,7 +76,10 @@ pub(crate) fn length(bytes: &[u8]) -> Verdict
     if bytes.len() < Envelope::HEADER_SIZE {
         return Verdict::NotJudged;
     }
-    verdict(place_in(bytes) + Envelope::FIELD_SIZE != bytes.len())
+    verdict(
+        Envelope::DATA_LENGTH_PLACE,
+        place_in(bytes) + Envelope::FIELD_SIZE != bytes.len(),
+    )
 }
 
 // 6: V is not 0 and the addresses break their rule. Judged for V from 6 to 132 alone, on bytes 21 to 16 + V.
@@ -88,7 +100,10 @@ pub(crate) fn addresses(bytes: &[u8]) -> Verdict
     if bytes.len() < end {
         return Verdict::NotJudged;
     }
-    verdict(bad_region(&bytes[Envelope::ADDRESSES_PLACE..end]))
+    verdict(
+        Envelope::ADDRESSES_PLACE,
+        bad_region(&bytes[Envelope::ADDRESSES_PLACE..end]),
+    )
 }
 
 // 7: kind none with a non-zero integrity field, or kind CRC with a field that is not the CRC.
@@ -103,15 +118,18 @@ pub(crate) fn integrity(bytes: &[u8]) -> Verdict
     if bytes.len() < place + Envelope::FIELD_SIZE {
         return Verdict::NotJudged;
     }
-    verdict(bad_integrity(bytes, kind_in(bytes[Envelope::FLAGS_PLACE]), place))
+    verdict(
+        place,
+        bad_integrity(bytes, kind_in(bytes[Envelope::FLAGS_PLACE]), place),
+    )
 }
 
-// Of a rule whose bytes are there.
-fn verdict(broken: bool) -> Verdict
-    ensures { λ r. ⌜ toldVerdict r ≡ judged broken ⌝ }
+// Of a rule whose bytes are there, with the place that it names.
+fn verdict(place: usize, broken: bool) -> Verdict
+    ensures { λ r. ⌜ toldVerdict r ≡ judged place broken ⌝ }
 {
     if broken {
-        return Verdict::Broken;
+        return Verdict::Broken(place);
     }
     Verdict::Kept
 }

@@ -31,7 +31,7 @@ use Rattle.sheet.proofs.OneFeed.{newFeed, new-between, envelopeC, takes
 sum-damaged : crc32 (take 19 damagedC) ≡ 0xC032AED4
 sum-damaged = crc32-computes (take 19 damagedC) tt
 
-pub reads-damaged : reading damagedC ≡ refusedBy 7
+pub reads-damaged : reading damagedC ≡ refusedBy 7 19
 unfolding reading readingWhole heading announced badFlags badVariableSize badAddresses badIntegrity threeAt fourAt
 reads-damaged = rw sum-damaged
 
@@ -39,17 +39,17 @@ pub announces-damaged : announcing damagedC ≡ announces 23
 unfolding announcing heading announced badFlags badVariableSize threeAt
 announces-damaged = refl
 
-pub verdict-damaged : verdict damagedC ≡ refused (number 7)
+pub verdict-damaged : verdict damagedC ≡ refused (number 7 19)
 unfolding verdict announcing heading announced badFlags badVariableSize threeAt
 verdict-damaged = rw reads-damaged
 
 abbrev pub wrongSum : Refusal
-wrongSum = MessageRefused (record { fault = BadIntegrity })
+wrongSum = MessageRefused (record { fault = BadIntegrity; place = 19 })
 
 found-C : taking fresh (C ++ M) ≡ fed C whole (message 23 fieldsOfC)
 found-C = sym (takes-whole C envelopeC (lit≤ tt) (starred .kind-crc) M)
 
-refused-C : taking fresh (damagedC ++ M) ≡ refusedAt 23 damagedC (number 7)
+refused-C : taking fresh (damagedC ++ M) ≡ refusedAt 23 damagedC (number 7 19)
 refused-C = sym (refused-when-complete .1 newFeed damagedC M wrongSum new-between (announces-damaged, lit≤ tt) verdict-damaged)
 
 cut-C : taking (heldBy (take 17 C) inside) (drop 17 C) ≡ record { state = heldBy C whole; used = 6; finding = message 23 fieldsOfC }

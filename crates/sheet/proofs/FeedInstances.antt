@@ -166,23 +166,23 @@ M-at-its-last-byte =
     let t = found-at-its-last-byte newFeed (take 10 M) (drop 10 M) tenCame cutM new-between (fits M envelopeM (lit≤ tt) (starred .a .0)) run-ten run-cut in
     (t .0 (lit< tt), t .2)
 
-abbrev otherVersion : List ℕ
+abbrev pub otherVersion : List ℕ
 otherVersion = set M 0 3
 
 abbrev version3 : Refusal
-version3 = MessageRefused (record { fault = WrongVersion })
+version3 = MessageRefused (record { fault = WrongVersion; place = 0 })
 
-verdict-17 : verdict (take 17 otherVersion) ≡ refused (number 2)
+verdict-17 : verdict (take 17 otherVersion) ≡ refused (number 2 0)
 unfolding verdict announcing heading
 verdict-17 = refl
 
 abbrev sixteenIn : Taken
 sixteenIn = record { feed = record { kept = heldBy (take 16 otherVersion) inside .kept; count = 16; standing = Inside }; used = 16; found = Nothing }
 
-abbrev refusedIn : Taken
+abbrev pub refusedIn : Taken
 refusedIn = record { feed = record { kept = heldBy (take 17 otherVersion) inside .kept; count = 17; standing = Refused version3 }; used = 17; found = FoundRefused version3 }
 
-takes-refused : Takes newFeed otherVersion refusedIn
+pub takes-refused : Takes newFeed otherVersion refusedIn
 takes-refused = refused-at-the-17th .1 newFeed (take 17 otherVersion) (drop 17 otherVersion) version3 new-between refl verdict-17
 
 abbrev cameOfVersion3 : Came
@@ -197,26 +197,26 @@ sixteenCame = callThen sixteenIn (noCalls (sixteenIn .feed))
 run-sixteen : Calls newFeed (take 16 otherVersion) sixteenCame
 run-sixteen = call (take 16 otherVersion) [] sixteenIn refl (sym (feed-cases .sixteen)) over
 
-pub refused-with-the-17th : Silent (take 16 otherVersion) sixteenCame × SettledAt newFeed (take 17 otherVersion) (refused (number 2)) cameOfVersion3
+pub refused-with-the-17th : Silent (take 16 otherVersion) sixteenCame × SettledAt newFeed (take 17 otherVersion) (refused (number 2 0)) cameOfVersion3
 refused-with-the-17th =
     let last = take 1 (drop 16 otherVersion) in
-    let t = refused-at-the-17th .0 newFeed (take 16 otherVersion) last (drop 17 otherVersion) (number 2) sixteenCame cameOfVersion3 new-between refl verdict-17 run-sixteen run-refused in
+    let t = refused-at-the-17th .0 newFeed (take 16 otherVersion) last (drop 17 otherVersion) (number 2 0) sixteenCame cameOfVersion3 new-between refl verdict-17 run-sixteen run-refused in
     (t .0 (lit< tt), t .2)
 
-abbrev damagedIn : Taken
+abbrev pub damagedIn : Taken
 damagedIn = record { feed = record { kept = heldBy damagedC whole .kept; count = 23; standing = Refused wrongSum }; used = 23; found = FoundRefused wrongSum }
 
-abbrev cameOfDamaged : Came
+abbrev pub cameOfDamaged : Came
 cameOfDamaged = callThen damagedIn (noCalls (damagedIn .feed))
 
-run-damaged : Calls newFeed (damagedC ++ M) cameOfDamaged
+pub run-damaged : Calls newFeed (damagedC ++ M) cameOfDamaged
 run-damaged =
     call (damagedC ++ M) [] damagedIn refl
     (refused-when-complete .1 newFeed damagedC M wrongSum new-between (announces-damaged, lit≤ tt) verdict-damaged) (stopped wrongSum refl)
 
-pub refused-with-the-last : SettledAt newFeed damagedC (refused (number 7)) cameOfDamaged
+pub refused-with-the-last : SettledAt newFeed damagedC (refused (number 7 19)) cameOfDamaged
 refused-with-the-last =
-    refused-when-complete .0 newFeed [] damagedC M (number 7) (noCalls newFeed) cameOfDamaged new-between (announces-damaged, lit≤ tt) verdict-damaged over run-damaged .2
+    refused-when-complete .0 newFeed [] damagedC M (number 7 19) (noCalls newFeed) cameOfDamaged new-between (announces-damaged, lit≤ tt) verdict-damaged over run-damaged .2
 
 pub where-2-is-told : Settles (take 17 otherVersion) 2
 where-2-is-told = where-refused newFeed otherVersion cameOfVersion3 version3 is-new run-refused refl
@@ -318,10 +318,10 @@ allButThe17th = record { kept = heldBy (take 16 (set M 0 3)) inside .kept; count
 abbrev versionIn : Taken
 versionIn =
     record {
-      feed = record { kept = heldBy (take 17 (set M 0 3)) inside .kept; count = 17; standing = Refused (MessageRefused (record { fault = WrongVersion })) };
+      feed = record { kept = heldBy (take 17 (set M 0 3)) inside .kept; count = 17; standing = Refused (MessageRefused (record { fault = WrongVersion; place = 0 })) };
       used = 1;
-      found = FoundRefused (MessageRefused (record { fault = WrongVersion }));
+      found = FoundRefused (MessageRefused (record { fault = WrongVersion; place = 0 }));
     }
 
-pub version-is-told : versionIn .found ≡ FoundRefused (MessageRefused (record { fault = WrongVersion }))
+pub version-is-told : versionIn .found ≡ FoundRefused (MessageRefused (record { fault = WrongVersion; place = 0 }))
 version-is-told = refusal-is-told allButThe17th _ (drop 16 (set M 0 3)) versionIn (sym (feed-cases .no-2-cut)) refl

@@ -4,7 +4,7 @@ use mathlib.Core.Bool.{false, cond, not}
 use mathlib.Core.List.{List, [], _∷_, _++_}
 use mathlib.Core.Logic.{_⊎_, inl, inr}
 use mathlib.Core.Path.{_≡_, refl, ap, sym, _∙_}
-use Prim.Native.Nat.{ℕ, zero, suc}
+use Prim.Native.Nat.{ℕ, zero, suc, _+_, _*_}
 use native.Mathlib.Omega.{arith}
 use denote.Ref.{RefT, now}
 use lib.Dec.{eqb, lit≤}
@@ -359,25 +359,25 @@ the-files-of-the-pair =
     (one-checks acrossTheEdge (limits .second) (lit≤ tt)) (omega arith) declares-in-file (one-declares acrossTheEdge (limits .second) (lit≤ tt))
     (rw holds-C refl) pair-length pair-outside)
 
--- ---- the answer word: 25 with 7, of record 3
+-- ---- the answer word: 25 with 7 at place 65, of record 3
 
-pub a-word-comes-back : unword (word (slots 25 7 3 0)) ≡ slots 25 7 3 0
+pub a-word-comes-back : unword (word (slots 25 7 3 65)) ≡ slots 25 7 3 65
 a-word-comes-back =
-    a-word-tells-its-slots (slots 25 7 3 0) (record { number = omega arith; reading = omega arith; count = omega arith; value = omega arith })
+    a-word-tells-its-slots (slots 25 7 3 65) (record { number = omega arith; reading = omega arith; count = omega arith; value = omega arith })
 
 -- ---- what a refusal leaves: 20 bytes of M, read and rewritten for C and by `rewrite`
 
-short-M : ReadsForC (take 20 M) (9 ∷ []) 1 (9 ∷ [])
+short-M : ReadsForC (take 20 M) (9 ∷ []) (1 + 20 * 4294967296) (9 ∷ [])
 unfolding word
 short-M = rw (starred .b) (refl, refl)
 
 pub the-fields-stayed : _≡_ {A = List ℕ} (9 ∷ []) (9 ∷ [])
-the-fields-stayed = refused-read-for-c-keeps (take 20 M) (9 ∷ []) 1 (9 ∷ []) short-M (λ e. apart 1 0 tt e)
+the-fields-stayed = refused-read-for-c-keeps (take 20 M) (9 ∷ []) (1 + 20 * 4294967296) (9 ∷ []) short-M (λ e. apart 1 0 tt e)
 
-rewrites-short-M : Rewrites (take 20 M) (9 ∷ []) (again.Refused (record { fault = TooShort })) (9 ∷ [])
+rewrites-short-M : Rewrites (take 20 M) (9 ∷ []) (again.Refused (record { fault = TooShort; place = 20 })) (9 ∷ [])
 rewrites-short-M = rw (starred .b) (refl, refl)
 
 pub the-buffer-stayed : _≡_ {A = List ℕ} (9 ∷ []) (9 ∷ [])
 the-buffer-stayed =
-    a-refused-rewrite-writes-nothing (take 20 M) (9 ∷ []) (9 ∷ []) (again.Refused (record { fault = TooShort })) rewrites-short-M
+    a-refused-rewrite-writes-nothing (take 20 M) (9 ∷ []) (9 ∷ []) (again.Refused (record { fault = TooShort; place = 20 })) rewrites-short-M
     (λ n e. let z : _≡_ {A = ℕ} 0 1 = cc in omega arith)

@@ -1,5 +1,6 @@
 -- The cases of K5, computed from the definitions. A sum is computed by the crate `sum`, and division finds it by its law.
 -- Beside them the answers for M as the code hands them out, of which the theorems of agreement then speak.
+use Prim.Native.Nat.{_+_}
 use mathlib.Core.List.{[], _∷_}
 use mathlib.Core.Path.{_≡_, refl, sym, _∙_}
 use lib.ListN.{take}
@@ -13,10 +14,11 @@ use Rattle.envelope.specs.Numbers.{threeAt, fourAt}
 use Rattle.envelope.specs.Reading.{reading}
 use Rattle.envelope.specs.Told.{told}
 use Rattle.envelope.specs.declared.reader.Reading.the-variants.{Accepted}
-use Rattle.judge.specs.Agreement.{Agree, readingNumber}
-use Rattle.judge.specs.Rules.{leastRule, versionRule, flagsRule, variableSizeRule, lengthRule, addressesRule, integrityRule}
+use Rattle.judge.specs.Agreement.{Agree, refusalIn}
+use Rattle.judge.specs.Rules.{noneBroken, leastRule, versionRule, flagsRule, variableSizeRule, lengthRule, addressesRule, integrityRule}
 use Rattle.judge.specs.Told.{Judges}
 use Rattle.judge.specs.declared.judging.Judging.{Judging}
+use Rattle.judge.specs.declared.judging.Lowest.the-variants.{NoneBroken}
 use Rattle.judge.specs.declared.judging.Verdict.the-variants.{Kept, NotJudged}
 use Rattle.exports.specs.Envelopes.{ReadsForC}
 use Rattle.exports.specs.Verdicts.{JudgesForC}
@@ -63,17 +65,18 @@ judges-M = refl
 pub agree-on-M : Agree [] (told (Accepted envelopeM))
 agree-on-M = answers-agree M (Accepted envelopeM) judgingM (sym (starred .a .0)) judges-M
 
-pub lowest-of-M : 0 ≡ readingNumber (told (Accepted envelopeM))
-lowest-of-M = lowest-is-readings M (Accepted envelopeM) judgingM 0 (sym (starred .a .0)) judges-M refl
+pub lowest-of-M : noneBroken ≡ refusalIn (told (Accepted envelopeM))
+lowest-of-M = lowest-is-readings M (Accepted envelopeM) judgingM NoneBroken (sym (starred .a .0)) judges-M refl
 
--- of the single byte 03 the reader of the C interface tells 1, and so does its judge, in the slot for it
-reads-a-byte : ReadsForC (3 ∷ []) [] 1 []
+-- of the single byte 03 the reader of the C interface tells 1 at place 1, and so does its judge, in the slots for it
+reads-a-byte : ReadsForC (3 ∷ []) [] (1 + 4294967296) []
 unfolding reading word
 reads-a-byte = (refl, refl)
 
-judges-a-byte : JudgesForC (3 ∷ []) 256 (1 ∷ 1 ∷ 2 ∷ 2 ∷ 2 ∷ 2 ∷ 2 ∷ [])
+judges-a-byte : JudgesForC (3 ∷ []) (256 + 4294967296) (1 ∷ 1 ∷ 2 ∷ 2 ∷ 2 ∷ 2 ∷ 2 ∷ [])
 unfolding leastRule versionRule flagsRule variableSizeRule lengthRule addressesRule integrityRule announced threeAt word
 judges-a-byte = (refl, refl)
 
-pub for-c-of-a-byte : unword 256 .reading ≡ unword 1 .number
-for-c-of-a-byte = judge-for-c-tells-reading (3 ∷ []) [] [] 1 256 _ reads-a-byte judges-a-byte
+pub for-c-of-a-byte :
+    (unword (256 + 4294967296) .reading ≡ unword (1 + 4294967296) .number) × (unword (256 + 4294967296) .value ≡ unword (1 + 4294967296) .value)
+for-c-of-a-byte = judge-for-c-tells-reading (3 ∷ []) [] [] (1 + 4294967296) (256 + 4294967296) _ (literals (3 ∷ []) tt) reads-a-byte judges-a-byte

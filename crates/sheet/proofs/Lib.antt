@@ -27,3 +27,6 @@ pub mod WrongStatements
 pub mod Instances
 pub mod FeedInstances
 pub mod FrameInstances
+pub mod SayWhere
+pub mod WrongPlaces
+pub mod PlaceInstances

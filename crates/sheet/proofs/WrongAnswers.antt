@@ -12,7 +12,7 @@ use Rattle.sum.specs.Promise.{Sums}
 use Rattle.sum.specs.Vectors.{digits}
 use Rattle.sum.proofs.Computed.{vectors, crc32-computes}
 use Rattle.envelope.specs.Addresses.{badAddresses}
-use Rattle.envelope.specs.Fields.{absent, refusedBy}
+use Rattle.envelope.specs.Fields.{absent, refusedBy, refusalBy}
 use Rattle.envelope.specs.Flags.{badFlags, TellsTime, TellsEncryption, TellsCompression, TellsKind}
 use Rattle.envelope.specs.Heading.{announced, badVariableSize, heading}
 use Rattle.envelope.specs.IntegrityField.{badIntegrity}
@@ -21,7 +21,7 @@ use Rattle.envelope.specs.Message.{Given, beforeField, fieldNumber, message}
 use Rattle.envelope.specs.Numbers.{twoAt, threeAt, fourAt, TwoBytes, ThreeBytes, FourBytes, TwoDigits, FourDigits}
 use Rattle.envelope.specs.Qos.{QosFields, splitting, joining, Splits, Joins}
 use Rattle.envelope.specs.Reading.{readingWhole, reading}
-use Rattle.envelope.specs.Refusals.{RefusalNumbers, NumbersPlainly, NumbersPassingOn}
+use Rattle.envelope.specs.Refusals.{RefusalNumbers, NumbersByReading, NumbersPlainly, NumbersPassingOn}
 use Rattle.envelope.specs.Rewriting.{rewrote, refused, Rewrites}
 use Rattle.envelope.specs.RoundTrips.{givenBy}
 use Rattle.envelope.specs.Sequence.{stepsOn, Distance, JudgesSequence}
@@ -33,8 +33,9 @@ use Rattle.envelope.specs.declared.fields.Header.{Header}
 use Rattle.envelope.specs.declared.fields.Integrity.the-variants.{None}
 use Rattle.envelope.specs.declared.lateness.Lateness.the-variants.{NoClock, Late, InTime}
 use Rattle.envelope.specs.declared.qos.Joining.the-variants.{Joined, DoesNotFit}
-use Rattle.envelope.specs.declared.reader.Fault.the-variants.{TooShort, WrongVersion}
+use Rattle.envelope.specs.declared.reader.Fault.the-variants.{TooShort, WrongVersion, BadFlags}
 use Rattle.envelope.specs.declared.reader.Reading.the-variants.{Accepted, Refused}
+use Rattle.envelope.specs.declared.reader.Refusal.{Refusal as ReadingRefusal}
 use Rattle.envelope.specs.declared.rewriter.Rewriting.the-variants as again
 use Rattle.envelope.specs.declared.sequence.Sequence.the-variants.{Ahead, Behind}
 use Rattle.envelope.specs.declared.writer.WriteFault.the-variants.{StrayIntegrity, NoRoom}
@@ -65,14 +66,14 @@ crc-starts-with-all-ones kept = apart 0xD202D277 0xCBF43926 tt (kept ∙ vectors
 
 -- ---- read: all turned away; the field skipped where the kind is none; another rule's number
 
-pub read-does-not-turn-all-away : Reads M (Refused (record { fault = TooShort })) → ⊥
-read-does-not-turn-all-away kept = accepted-not-refused _ 1 (sym (kept ∙ starred .a .0))
+pub read-does-not-turn-all-away : (r : ReadingRefusal) → Reads M (Refused r) → ⊥
+read-does-not-turn-all-away r kept = accepted-not-refused _ _ (sym (kept ∙ starred .a .0))
 
 pub read-does-not-skip-the-field : (e : Envelope) → Reads (set M 20 1) (Accepted e) → ⊥
-read-does-not-skip-the-field e kept = accepted-not-refused _ 7 (kept ∙ starred .f)
+read-does-not-skip-the-field e kept = accepted-not-refused _ _ (kept ∙ starred .f)
 
-pub read-gives-the-first-rule : Reads (take 20 M) (Refused (record { fault = WrongVersion })) → ⊥
-read-gives-the-first-rule kept = apart 2 1 tt (refusal-number 2 1 (kept ∙ starred .b))
+pub read-gives-the-first-rule : (place : ℕ) → Reads (take 20 M) (Refused (record { fault = WrongVersion; place = place })) → ⊥
+read-gives-the-first-rule place kept = apart 2 1 tt (refusal-number 2 place 1 20 (kept ∙ starred .b))
 
 -- the sum over the message with its field as zeros, in the field
 abbrev pub fieldAsZeros : List ℕ
@@ -83,12 +84,12 @@ fieldAsZeros =
 is-that-sum : crc32 (take 21 fieldAsZeros ++ replicate 4 0) ≡ 0x76B69024
 is-that-sum = crc32-computes (take 21 fieldAsZeros ++ replicate 4 0) tt
 
-reads-as-zeros : reading fieldAsZeros ≡ refusedBy 7
+reads-as-zeros : reading fieldAsZeros ≡ refusedBy 7 21
 unfolding reading readingWhole heading announced badFlags badVariableSize badAddresses badIntegrity twoAt threeAt fourAt
 reads-as-zeros = rw (crc32-computes (take 21 fieldAsZeros) tt)
 
 pub read-does-not-count-the-field-as-zeros : (e : Envelope) → Reads fieldAsZeros (Accepted e) → ⊥
-read-does-not-count-the-field-as-zeros e kept = accepted-not-refused _ 7 (kept ∙ reads-as-zeros)
+read-does-not-count-the-field-as-zeros e kept = accepted-not-refused _ _ (kept ∙ reads-as-zeros)
 
 -- ---- write: nothing touched; a byte past the message touched; another header version; a refusal that writes
 
@@ -125,7 +126,7 @@ rewrite-does-not-touch-nothing kept =
 pub rewrite-refuses-what-read-refuses : (exit : List ℕ) → Rewrites (take 20 M) (replicate 21 0) (again.Written 20) exit → ⊥
 rewrite-refuses-what-read-refuses exit kept = told (rw (starred .b) at (kept .0))
   where
-    told : rewrote 20 ≡ refused (record { number = 1 }) → ⊥
+    told : rewrote 20 ≡ refused (refusalBy 1 20) → ⊥
     told e = let z : _≡_ {A = ℕ} 0 1 = cc in omega arith
 
 -- ---- Envelope::new: another body; another integrity
@@ -165,19 +166,33 @@ a-write-fault-keeps-its-number kept = apart 14 15 tt kept
 pub write-faults-have-different-numbers : NumbersWriteFault StrayIntegrity 11 → ⊥
 write-faults-have-different-numbers kept = apart 11 14 tt kept
 
--- ---- the numbers of a refusal: another's; reading's invented or lost
+-- ---- the numbers of a refusal: another's; reading's number or its place invented or lost
 
-pub plainly-keeps-its-number : NumbersPlainly 21 (record { number = 22; reading = 0 }) → ⊥
+pub plainly-keeps-its-number : NumbersPlainly 21 (record { number = 22; reading = 0; place = 0 }) → ⊥
 plainly-keeps-its-number kept = apart 22 21 tt (ap (λ (r : RefusalNumbers). r .number) kept)
 
-pub plainly-has-no-reading : NumbersPlainly 21 (record { number = 21; reading = 1 }) → ⊥
+pub plainly-has-no-reading : NumbersPlainly 21 (record { number = 21; reading = 1; place = 0 }) → ⊥
 plainly-has-no-reading kept = apart 1 0 tt (ap (λ (r : RefusalNumbers). r .reading) kept)
 
-pub passing-on-keeps-its-number : NumbersPassingOn 25 (record { fault = TooShort }) (record { number = 31; reading = 1 }) → ⊥
+pub plainly-has-no-place : NumbersPlainly 21 (record { number = 21; reading = 0; place = 4 }) → ⊥
+plainly-has-no-place kept = apart 4 0 tt (ap (λ (n : RefusalNumbers). n .place) kept)
+
+pub passing-on-keeps-its-number : NumbersPassingOn 25 (record { fault = TooShort; place = 9 }) (record { number = 31; reading = 1; place = 9 }) → ⊥
 passing-on-keeps-its-number kept = apart 31 25 tt (ap (λ (r : RefusalNumbers). r .number) kept)
 
-pub passing-on-tells-reading : NumbersPassingOn 25 (record { fault = WrongVersion }) (record { number = 25; reading = 0 }) → ⊥
+pub passing-on-tells-reading : NumbersPassingOn 25 (record { fault = WrongVersion; place = 0 }) (record { number = 25; reading = 0; place = 0 }) → ⊥
 passing-on-tells-reading kept = apart 0 2 tt (ap (λ (r : RefusalNumbers). r .reading) kept)
+
+pub passing-on-tells-the-place : NumbersPassingOn 25 (record { fault = BadFlags; place = 4 }) (record { number = 25; reading = 3; place = 0 }) → ⊥
+passing-on-tells-the-place kept = apart 0 4 tt (ap (λ (n : RefusalNumbers). n .place) kept)
+
+-- of reading itself: no number of its own; no place
+
+pub by-reading-has-its-own-number : NumbersByReading (record { fault = BadFlags; place = 4 }) (record { number = 0; reading = 3; place = 4 }) → ⊥
+by-reading-has-its-own-number kept = apart 0 3 tt (ap (λ (n : RefusalNumbers). n .number) kept)
+
+pub by-reading-tells-the-place : NumbersByReading (record { fault = BadFlags; place = 4 }) (record { number = 3; reading = 0; place = 0 }) → ⊥
+by-reading-tells-the-place kept = apart 0 4 tt (ap (λ (n : RefusalNumbers). n .place) kept)
 
 -- ---- numbers: the lowest byte first; a byte forgotten
 

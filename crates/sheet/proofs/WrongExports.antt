@@ -22,12 +22,13 @@ use Rattle.feed.specs.Verdict.{tooLong}
 use Rattle.frame.specs.Unwrapping.{UnwrapAnswer}
 use Rattle.frame.specs.Wrapping.{WrapOutcome}
 use Rattle.frame.specs.Wrapping as frame
-use Rattle.judge.specs.Rules.{leastRule, versionRule, addressesRule}
+use Rattle.envelope.specs.Flags.{badFlags}
+use Rattle.judge.specs.Rules.{leastRule, versionRule, flagsRule, addressesRule}
 use Rattle.exports.specs.Envelopes.{readSlots, fieldsAfter, ReadsForC, writeSlots, WritesForC, RewritesForC, qosFor, SplitsForC, JoinsForC, JudgesLatenessForC, JudgesSequenceForC}
 use Rattle.exports.specs.Feeds.{foundSlots, Lent, lent, lentAfter, TakesForC, EndsForC, RestartsForC, HoldsForC}
 use Rattle.exports.specs.Frames.{unwrapSlots, commidsAfter, messageFields, FrameLent, lentFor, UnwrapsForC, wrapSlots, WrapsForC, AcknowledgesForC}
 use Rattle.exports.specs.Goldens.{CountsForC, checkSlots, ChecksForC, nameFor, FindsForC, EntersForC, StepsForC, ComparesForC, MakesForC}
-use Rattle.exports.specs.Verdicts.{JudgesForC}
+use Rattle.exports.specs.Verdicts.{JudgesForC, VerdictLent, verdictLent, JudgesPlacesForC}
 use Rattle.exports.specs.Word.{slots, word, sized}
 use Rattle.sheet.specs.Cases.{M}
 use Rattle.sheet.specs.FeedCases.{heldBy, announcing511}
@@ -70,7 +71,7 @@ rewrite-for-c-does-not-touch-nothing r kept =
 
 pub rewrite-for-c-refuses-what-read-refuses : (exit : List ℕ) → RewritesForC (take 20 M) (replicate 21 0) 0 exit → ⊥
 unfolding word
-rewrite-for-c-refuses-what-read-refuses exit kept = apart 0 1 tt (rw (starred .b) at (kept .0))
+rewrite-for-c-refuses-what-read-refuses exit kept = apart 0 (1 + 20 * 4294967296) tt (rw (starred .b) at (kept .0))
 
 -- ---- QoS: nothing written; the priority as the class; a number that does not fit; 41 for all
 
@@ -182,9 +183,9 @@ pub make-for-c-refuses-a-short-buffer : (exit : List ℕ) → MakesForC M [] 0 e
 unfolding making word
 make-for-c-refuses-a-short-buffer exit kept = apart 0 35 tt (rw (starred .a .0) at (kept .0))
 
-pub make-for-c-tells-what-reading-said : (exit : List ℕ) → MakesForC (take 20 M) [] 34 exit → ⊥
+pub make-for-c-tells-what-reading-said : (exit : List ℕ) → MakesForC (take 20 M) [] (34 + 20 * 4294967296) exit → ⊥
 unfolding making word
-make-for-c-tells-what-reading-said exit kept = apart 34 (34 + 256) tt (rw (starred .b) at (kept .0))
+make-for-c-tells-what-reading-said exit kept = apart (34 + 20 * 4294967296) (34 + 256 + 20 * 4294967296) tt (rw (starred .b) at (kept .0))
 
 -- 17 bytes that announce 511 are in, and 51 stands
 abbrev refusedFeed : State
@@ -192,9 +193,9 @@ refusedFeed = heldBy (take 17 announcing511) (refusedStand tooLong)
 
 -- ---- the judge: the number of reading told as a refusal; a rule that was not judged told as kept; a broken one told as kept
 
-pub judge-for-c-is-no-refusal : (exit : List ℕ) → JudgesForC (3 ∷ []) 1 exit → ⊥
+pub judge-for-c-is-no-refusal : (exit : List ℕ) → JudgesForC (3 ∷ []) (1 + 4294967296) exit → ⊥
 unfolding leastRule word
-judge-for-c-is-no-refusal exit kept = apart 1 256 tt (kept .0)
+judge-for-c-is-no-refusal exit kept = apart (1 + 4294967296) (256 + 4294967296) tt (kept .0)
 
 pub judge-for-c-tells-not-judged-from-kept : (r : ℕ) → JudgesForC M r (0 ∷ 0 ∷ 0 ∷ 0 ∷ 0 ∷ 0 ∷ 0 ∷ []) → ⊥
 unfolding addressesRule
@@ -203,6 +204,20 @@ judge-for-c-tells-not-judged-from-kept r kept = apart 0 2 tt (ap (λ (s : List �
 pub judge-for-c-tells-what-is-broken : (r : ℕ) → JudgesForC (3 ∷ []) r (1 ∷ 0 ∷ 2 ∷ 2 ∷ 2 ∷ 2 ∷ 2 ∷ []) → ⊥
 unfolding versionRule
 judge-for-c-tells-what-is-broken r kept = apart 0 1 tt (ap (λ (s : List ℕ). getD s 1 0) (kept .1))
+
+-- ---- the judge with places: verdicts in the place of places; a broken rule's place left out; a place for a rule that is not broken
+
+pub judge-places-for-c-tells-places : (r : ℕ) (verdicts : List ℕ) → JudgesPlacesForC (set M 4 0x20) r (verdictLent verdicts (0 ∷ 0 ∷ 1 ∷ 0 ∷ 0 ∷ 2 ∷ 0 ∷ [])) → ⊥
+unfolding flagsRule badFlags
+judge-places-for-c-tells-places r verdicts kept = apart 1 4 tt (ap (λ (l : VerdictLent). getD (l .places) 2 0) (kept .1))
+
+pub judge-places-for-c-leaves-no-place-out : (r : ℕ) (verdicts : List ℕ) → JudgesPlacesForC (set M 4 0x20) r (verdictLent verdicts (0 ∷ 0 ∷ 0 ∷ 0 ∷ 0 ∷ 0 ∷ 0 ∷ [])) → ⊥
+unfolding flagsRule badFlags
+judge-places-for-c-leaves-no-place-out r verdicts kept = apart 0 4 tt (ap (λ (l : VerdictLent). getD (l .places) 2 0) (kept .1))
+
+pub judge-places-for-c-has-none-for-a-kept-rule : (r : ℕ) (verdicts : List ℕ) → JudgesPlacesForC M r (verdictLent verdicts (0 ∷ 0 ∷ 4 ∷ 16 ∷ 5 ∷ 21 ∷ 17 ∷ [])) → ⊥
+unfolding flagsRule badFlags
+judge-places-for-c-has-none-for-a-kept-rule r verdicts kept = apart 4 0 tt (ap (λ (l : VerdictLent). getD (l .places) 2 0) (kept .1))
 
 -- ---- a feed's piece: half a message told as none used; a refusal that stands passed over; fields written where none is found
 

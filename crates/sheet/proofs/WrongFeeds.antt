@@ -1,4 +1,4 @@
--- For each public function of the feed two answers that a careless program would give, and five feeds that are wrong, each refuted by computing.
+-- For each public function of the feed answers that a careless program would give, and five feeds that are wrong, each refuted by computing.
 -- Whatever else such an answer says: what is refuted is one number or one case of it.
 use mathlib.Core.List.{List, [], _∷_, _++_}
 use mathlib.Core.Path.{_≡_, ap, sym, _∙_}
@@ -13,6 +13,7 @@ use Rattle.envelope.specs.declared.announcer.Announcement.the-variants as code
 use Rattle.envelope.specs.declared.fields.Envelope.{Envelope}
 use Rattle.envelope.specs.declared.reader.Fault.the-variants.{BadVariableSize}
 use Rattle.feed.specs.Cutting.{Came, Calls}
+use Rattle.envelope.specs.Refusals.{RefusalNumbers}
 use Rattle.feed.specs.Feeding.{Stand, inside, whole, refused, State, Finding, nothing, message, FeedOutcome}
 use Rattle.feed.specs.Messages.{none, also}
 use Rattle.feed.specs.Told.{toldStanding, toldFound, toldTaken, NumbersFeedRefusal, Fresh, Takes, Ends, Advances, Closes, Holds}
@@ -176,13 +177,19 @@ held-is-no-half-message kept = apart 20 0 tt (ap length kept)
 pub held-is-the-message : Holds (heldBy M whole .kept) 21 Whole [] → ⊥
 held-is-the-message kept = apart 0 21 tt (ap length kept)
 
--- ---- the numbers of refusals: another's; one for all that reading gives
+-- ---- the numbers of refusals: another's; one for all that reading gives; a place lost, and one that there is not
 
-pub a-feed-refusal-keeps-its-number : NumbersFeedRefusal TooLong 52 → ⊥
-a-feed-refusal-keeps-its-number kept = apart 52 51 tt kept
+pub a-feed-refusal-keeps-its-number : NumbersFeedRefusal TooLong (record { number = 52; reading = 0; place = 0 }) → ⊥
+a-feed-refusal-keeps-its-number kept = apart 52 51 tt (ap (λ (n : RefusalNumbers). n .number) kept)
 
-pub a-feed-refusal-passes-reading-on : NumbersFeedRefusal (MessageRefused (record { fault = BadVariableSize })) 2 → ⊥
-a-feed-refusal-passes-reading-on kept = apart 2 4 tt kept
+pub a-feed-refusal-passes-reading-on : NumbersFeedRefusal (MessageRefused (record { fault = BadVariableSize; place = 16 })) (record { number = 2; reading = 0; place = 16 }) → ⊥
+a-feed-refusal-passes-reading-on kept = apart 2 4 tt (ap (λ (n : RefusalNumbers). n .number) kept)
+
+pub a-feed-refusal-keeps-its-place : NumbersFeedRefusal (MessageRefused (record { fault = BadVariableSize; place = 16 })) (record { number = 4; reading = 0; place = 0 }) → ⊥
+a-feed-refusal-keeps-its-place kept = apart 0 16 tt (ap (λ (n : RefusalNumbers). n .place) kept)
+
+pub a-feed-refusal-of-its-own-has-no-place : NumbersFeedRefusal TooLong (record { number = 51; reading = 0; place = 5 }) → ⊥
+a-feed-refusal-of-its-own-has-no-place kept = apart 5 0 tt (ap (λ (n : RefusalNumbers). n .place) kept)
 
 -- ---- announce: a length before 17 bytes are there; a refused heading passed over; another length
 

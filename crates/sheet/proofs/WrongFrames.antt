@@ -115,10 +115,13 @@ first-is-not-the-data-length p = apart 24 37 tt (p ∙ first-cases .then-another
 pub first-takes-what-is-there : MeasuresFirst (take 36 carrier) 37 → ⊥
 first-takes-what-is-there p = apart 37 36 tt (p ∙ first-cases .byte-missing)
 
--- ---- a refusal's numbers: that of another; reading's number lost
+-- ---- a refusal's numbers: that of another; reading's number lost, and its place
 
 pub a-frame-refusal-keeps-its-number : (n : Numbers) → n .number ≡ 62 → NumbersFrameRefusal TooShort n → ⊥
 a-frame-refusal-keeps-its-number n e p = apart 62 61 tt (sym e ∙ ap (λ (x : RefusalNumbers). x .number) p)
 
-pub a-frame-refusal-passes-reading-on : (n : Numbers) → n .reading ≡ 0 → NumbersFrameRefusal (MessageRefused (record { fault = BadFlags })) n → ⊥
+pub a-frame-refusal-passes-reading-on : (n : Numbers) → n .reading ≡ 0 → NumbersFrameRefusal (MessageRefused (record { fault = BadFlags; place = 4 })) n → ⊥
 a-frame-refusal-passes-reading-on n e p = apart 0 3 tt (sym e ∙ ap (λ (x : RefusalNumbers). x .reading) p)
+
+pub a-frame-refusal-passes-the-place-on : (n : Numbers) → n .place ≡ 0 → NumbersFrameRefusal (MessageRefused (record { fault = BadFlags; place = 4 })) n → ⊥
+a-frame-refusal-passes-the-place-on n wrong kept = apart 0 4 tt (sym wrong ∙ ap (λ (m : RefusalNumbers). m .place) kept)

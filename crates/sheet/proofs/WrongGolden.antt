@@ -8,7 +8,7 @@ use native.Mathlib.Omega.{arith}
 use lib.ListN.{length, getD, set, replicate}
 use Rattle.envelope.specs.Fields.{Span, absent}
 use Rattle.envelope.specs.Numbers.{twoAt}
-use Rattle.envelope.specs.declared.reader.Fault.the-variants.{TooShort}
+use Rattle.envelope.specs.declared.reader.Fault.the-variants.{TooShort, BadFlags}
 use Rattle.golden.specs.Checking.{counted, checking, Checks}
 use Rattle.golden.specs.Comparing.{CompareOutcome, positions, same, different, afterComparing, comparing, answerToComparing, Compares}
 use Rattle.golden.specs.File.{badFile, judgedAt}
@@ -187,8 +187,11 @@ make-puts-zeros-behind kept =
 
 -- ---- the numbers of a refusal: another rule's; reading's own left out
 
-pub a-golden-refusal-keeps-its-number : NumbersGoldenRefusal BadLength (record { number = 24; reading = 0 }) → ⊥
+pub a-golden-refusal-keeps-its-number : NumbersGoldenRefusal BadLength (record { number = 24; reading = 0; place = 0 }) → ⊥
 a-golden-refusal-keeps-its-number kept = apart 24 23 tt (ap (λ (r : RefusalNumbers). r .number) kept)
 
-pub a-golden-refusal-passes-reading-on : NumbersGoldenRefusal (RecordRefused (record { fault = TooShort })) (record { number = 25; reading = 0 }) → ⊥
+pub a-golden-refusal-passes-reading-on : NumbersGoldenRefusal (RecordRefused (record { fault = TooShort; place = 9 })) (record { number = 25; reading = 0; place = 9 }) → ⊥
 a-golden-refusal-passes-reading-on kept = apart 0 1 tt (ap (λ (r : RefusalNumbers). r .reading) kept)
+
+pub a-golden-refusal-passes-the-place-on : NumbersGoldenRefusal (RecordRefused (record { fault = BadFlags; place = 4 })) (record { number = 25; reading = 3; place = 0 }) → ⊥
+a-golden-refusal-passes-the-place-on kept = apart 0 4 tt (ap (λ (n : RefusalNumbers). n .place) kept)

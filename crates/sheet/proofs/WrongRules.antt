@@ -6,7 +6,7 @@ use Prim.Native.Nat.{ℕ, _+_}
 use native.Mathlib.Omega.{arith}
 use borrow.Author.Tests.{lt-ltb}
 use lib.ListN.{length, take, set, getD, replicate}
-use Rattle.envelope.specs.Fields.{Answer, accepted, refusedBy}
+use Rattle.envelope.specs.Fields.{Answer, accepted, refusedBy, refusalBy}
 use Rattle.envelope.specs.Fields as answer
 use Rattle.envelope.specs.Flags.{badFlags}
 use Rattle.envelope.specs.Heading.{heading}
@@ -41,33 +41,33 @@ use Rattle.sheet.proofs.WrongAnswers.{givenM}
 -- ---- reading
 
 pub read-does-not-pass-over-1 : (e : Envelope) → Reads (take 20 M) (Accepted e) → ⊥
-read-does-not-pass-over-1 e kept = accepted-not-refused _ 1 (kept ∙ starred .b)
+read-does-not-pass-over-1 e kept = accepted-not-refused _ _ (kept ∙ starred .b)
 
 pub read-does-not-pass-over-2 : (e : Envelope) → Reads (set M 0 3) (Accepted e) → ⊥
-read-does-not-pass-over-2 e kept = accepted-not-refused _ 2 (kept ∙ starred .c)
+read-does-not-pass-over-2 e kept = accepted-not-refused _ _ (kept ∙ starred .c)
 
 -- bit 5, and kind 3
-unassigned : (reading (set M 4 0x20) ≡ refusedBy 3) × (reading (set M 4 0x18) ≡ refusedBy 3)
+unassigned : (reading (set M 4 0x20) ≡ refusedBy 3 4) × (reading (set M 4 0x18) ≡ refusedBy 3 4)
 unfolding reading heading badFlags
 unassigned = (refl, refl)
 
 pub read-does-not-pass-over-3 : (e : Envelope) → Reads (set M 4 0x20) (Accepted e) → ⊥
-read-does-not-pass-over-3 e kept = accepted-not-refused _ 3 (kept ∙ unassigned .0)
+read-does-not-pass-over-3 e kept = accepted-not-refused _ _ (kept ∙ unassigned .0)
 
 pub read-does-not-pass-over-kind-3 : (e : Envelope) → Reads (set M 4 0x18) (Accepted e) → ⊥
-read-does-not-pass-over-kind-3 e kept = accepted-not-refused _ 3 (kept ∙ unassigned .1)
+read-does-not-pass-over-kind-3 e kept = accepted-not-refused _ _ (kept ∙ unassigned .1)
 
 pub read-does-not-pass-over-4 : (e : Envelope) → Reads (set M 16 5) (Accepted e) → ⊥
-read-does-not-pass-over-4 e kept = accepted-not-refused _ 4 (kept ∙ starred .d .0)
+read-does-not-pass-over-4 e kept = accepted-not-refused _ _ (kept ∙ starred .d .0)
 
-pub read-gives-4-before-5 : Reads (set M 16 5) (ReadingRefused (record { fault = WrongLength })) → ⊥
-read-gives-4-before-5 kept = apart 5 4 tt (refusal-number 5 4 (kept ∙ starred .d .0))
+pub read-gives-4-before-5 : (place : ℕ) → Reads (set M 16 5) (ReadingRefused (record { fault = WrongLength; place = place })) → ⊥
+read-gives-4-before-5 place kept = apart 5 4 tt (refusal-number 5 place 4 16 (kept ∙ starred .d .0))
 
 pub read-does-not-pass-over-5 : (e : Envelope) → Reads (M ++ 0 ∷ []) (Accepted e) → ⊥
-read-does-not-pass-over-5 e kept = accepted-not-refused _ 5 (kept ∙ starred .e 0)
+read-does-not-pass-over-5 e kept = accepted-not-refused _ _ (kept ∙ starred .e 0)
 
 pub read-does-not-pass-over-6 : (e : Envelope) → Reads (withAddresses 7 (0x41 ∷ 0x41 ∷ 0 ∷ [])) (Accepted e) → ⊥
-read-does-not-pass-over-6 e kept = accepted-not-refused _ 6 (kept ∙ starred .i-refused)
+read-does-not-pass-over-6 e kept = accepted-not-refused _ _ (kept ∙ starred .i-refused)
 
 -- and what is accepted has the message's own fields: not another number, and not a body from another place
 numberIn : Answer → ℕ
@@ -155,7 +155,7 @@ otherVersion = 0 ∷ 21 ∷ set M 0 3 ++ replicate 489 0
 
 pub bad-records :
     (checking shortLength ≡ check.refused 0 (plainly 23))
-    × ((checking byteBehind ≡ check.refused 0 (plainly 24)) × (checking otherVersion ≡ check.refused 0 (passingOn 25 (record { number = 2 }))))
+    × ((checking byteBehind ≡ check.refused 0 (plainly 24)) × (checking otherVersion ≡ check.refused 0 (passingOn 25 (refusalBy 2 0))))
 unfolding checking checkFrom badFile judgedAt judging badLength storedLength storedWord allZero twoAt reading heading
 bad-records = (refl, (refl, refl))
 
@@ -169,18 +169,18 @@ pub check-does-not-pass-over-24 : (n : ℕ) → Checks byteBehind (Count n) → 
 check-does-not-pass-over-24 n kept = counted-not-refused n 0 (plainly 24) (kept ∙ bad-records .1 .0)
 
 pub check-does-not-pass-over-25 : (n : ℕ) → Checks otherVersion (Count n) → ⊥
-check-does-not-pass-over-25 n kept = counted-not-refused n 0 (passingOn 25 (record { number = 2 })) (kept ∙ bad-records .1 .1)
+check-does-not-pass-over-25 n kept = counted-not-refused n 0 (passingOn 25 (refusalBy 2 0)) (kept ∙ bad-records .1 .1)
 
 -- ---- compare: a radio's message that reading refuses
 
-refused-radio : comparing (recordOf M) 0 (take 20 M) ≡ compare.refused (passingOn 31 (record { number = 1 }))
+pub refused-radio : comparing (recordOf M) 0 (take 20 M) ≡ compare.refused (passingOn 31 (refusalBy 1 20))
 unfolding comparing badFile judgedAt judging badLength storedLength storedWord allZero recordOf twoAt
 refused-radio = rw (starred .a .0, starred .b)
 
 pub compare-does-not-pass-over-31 : (entry exit : List ℕ) → Compares (recordOf M) 0 (take 20 M) entry Same exit → ⊥
 unfolding compare.answerToComparing
 compare-does-not-pass-over-31 entry exit kept =
-    let told : compare.same ≡ compare.refused (passingOn 31 (record { number = 1 })) = kept .0 ∙ ap compare.answerToComparing refused-radio in
+    let told : compare.same ≡ compare.refused (passingOn 31 (refusalBy 1 20)) = kept .0 ∙ ap compare.answerToComparing refused-radio in
     let z : _≡_ {A = ℕ} 0 1 = cc in
     omega arith
 
@@ -201,4 +201,4 @@ make-does-not-pass-over-33 m entry exit e kept =
 
 pub make-does-not-pass-over-34 : (entry exit : List ℕ) → Makes (take 20 M) entry Made exit → ⊥
 unfolding making
-make-does-not-pass-over-34 entry exit kept = made-not-refused (passingOn 34 (record { number = 1 })) (rw (starred .b) at (kept .0))
+make-does-not-pass-over-34 entry exit kept = made-not-refused (passingOn 34 (refusalBy 1 20)) (rw (starred .b) at (kept .0))

@@ -1,4 +1,4 @@
--- The starred cases a to m of document 01 as one table about the definitions, with all that it says of each. RULES 9.
+-- The starred cases a to m of document 01 as one table about the definitions, with all that it says of each, and the places of document 02. RULES 9.
 -- Beside them one accepted message of kind CRC. The checker computes every line, in proofs/Cases.
 use Prim.Native.Nat.{ℕ, _+_}
 use mathlib.Core.Bool.{true}
@@ -57,15 +57,15 @@ fieldsOfC =
 
 pub record StarredCases : Type 0 where
   pub a : (reading M ≡ accepted (likeM absent 17 0)) × (length M ≡ 21)
-  pub b : reading (take 20 M) ≡ refusedBy 1
-  pub c : reading (set M 0 3) ≡ refusedBy 2
+  pub b : reading (take 20 M) ≡ refusedBy 1 20
+  pub c : reading (set M 0 3) ≡ refusedBy 2 0
   -- though 5 holds as well
-  pub d : (reading (set M 16 5) ≡ refusedBy 4) × (wrongLength (set M 16 5) ≡ true)
-  pub e : (x : ℕ) → reading (M ++ x ∷ []) ≡ refusedBy 5
-  pub f : reading (set M 20 1) ≡ refusedBy 7
+  pub d : (reading (set M 16 5) ≡ refusedBy 4 16) × (wrongLength (set M 16 5) ≡ true)
+  pub e : (x : ℕ) → reading (M ++ x ∷ []) ≡ refusedBy 5 5
+  pub f : reading (set M 20 1) ≡ refusedBy 7 17
   pub g : (x : ℕ) → reading (withBody x) ≡ accepted (likeM absent 17 1)
   pub h : (reading (withAddresses 6 (0 ∷ 0 ∷ [])) ≡ accepted (likeM (ends 0 0) 23 0)) × (length (withAddresses 6 (0 ∷ 0 ∷ [])) ≡ 27)
-  pub i-refused : reading (withAddresses 7 (0x41 ∷ 0x41 ∷ 0 ∷ [])) ≡ refusedBy 6
+  pub i-refused : reading (withAddresses 7 (0x41 ∷ 0x41 ∷ 0 ∷ [])) ≡ refusedBy 6 21
   pub i-source : reading (withAddresses 7 (0x41 ∷ 0 ∷ 0 ∷ [])) ≡ accepted (likeM (ends 1 0) 24 0)
   pub i-destination : reading (withAddresses 7 (0 ∷ 0x41 ∷ 0 ∷ [])) ≡ accepted (likeM (ends 0 1) 24 0)
   pub i-differ : reading (withAddresses 7 (0x41 ∷ 0 ∷ 0 ∷ [])) ≡ reading (withAddresses 7 (0 ∷ 0x41 ∷ 0 ∷ [])) → ⊥

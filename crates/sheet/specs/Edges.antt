@@ -43,7 +43,7 @@ pub record EmptyFile : Type 0 where
 
 pub record Edges : Type 0 where
   -- reading: no bytes; longer than any message can be; V; flags
-  pub no-bytes : reading [] ≡ refusedBy 1
+  pub no-bytes : reading [] ≡ refusedBy 1 0
   pub past-the-longest : (s : List ℕ) (f : Fields) → Bytes s → largestMessage < length s → reading s ≡ accepted f → ⊥
   pub v-0 : badVariableSize 0 ≡ false
   pub v-1 : badVariableSize 1 ≡ true

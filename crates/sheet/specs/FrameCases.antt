@@ -4,7 +4,7 @@ use Prim.Native.Nat.{ℕ}
 use mathlib.Core.List.{List, [], _∷_, _++_}
 use mathlib.Core.Path.{_≡_}
 use lib.ListN.{set, take}
-use Rattle.envelope.specs.Fields.{absent, none, Fields}
+use Rattle.envelope.specs.Fields.{absent, none, Fields, refusalBy}
 use Rattle.frame.specs.Capturing.{firstSize}
 use Rattle.frame.specs.Wrapping.{written, wrapping, acknowledging}
 use Rattle.frame.specs.Wrapping as wrap
@@ -39,8 +39,8 @@ hollow = 2 ∷ 2 ∷ 0 ∷ 0 ∷ 0 ∷ 1 ∷ 1 ∷ 2 ∷ 0 ∷ 0 ∷ 0 ∷ 0 ∷
 abbrev pub no : ℕ → UnwrapAnswer
 no n = refused (plainly n)
 
-abbrev pub messageRefused : ℕ → UnwrapAnswer
-messageRefused n = refused (passingOn 67 (record { number = n }))
+abbrev pub messageRefused : (number place : ℕ) → UnwrapAnswer
+messageRefused number place = refused (passingOn 67 (refusalBy number place))
 
 pub record UnwrapCases : Type 0 where
   -- good ones; ETX in the body is a byte like any other
@@ -51,7 +51,7 @@ pub record UnwrapCases : Type 0 where
   -- 61: no bytes, 12, and 13, which are a frame (of a message too short)
   pub nothing : unwrapping [] ≡ no 61
   pub twelve : unwrapping (take 12 hollow) ≡ no 61
-  pub thirteen : unwrapping hollow ≡ messageRefused 1
+  pub thirteen : unwrapping hollow ≡ messageRefused 1 0
   -- 62
   pub no-stx : unwrapping (set carrier 0 3) ≡ no 62
   -- 63, of either version, and of an acknowledgment
@@ -75,8 +75,8 @@ pub record UnwrapCases : Type 0 where
   pub no-etx : unwrapping (set carrier 36 2) ≡ no 66
   pub no-etx-acknowledged : unwrapping (set reply 16 0) ≡ no 66
   -- 67 with reading's own number: a header version, and an integrity field that is not 0
-  pub message-version : unwrapping (set carrier 12 5) ≡ messageRefused 2
-  pub message-integrity : unwrapping (set carrier 35 1) ≡ messageRefused 7
+  pub message-version : unwrapping (set carrier 12 5) ≡ messageRefused 2 0
+  pub message-integrity : unwrapping (set carrier 35 1) ≡ messageRefused 7 20
   -- the first of two answers
   pub stx-before-version : unwrapping (set (set carrier 0 0) 1 0) ≡ no 62
   pub version-before-type : unwrapping (set (set carrier 7 0) 6 9) ≡ no 63
@@ -88,7 +88,7 @@ pub record WrapCases : Type 0 where
   pub frames : wrapping held 0x01020304 99 ≡ written carrier
   pub just-room : wrapping held 0x01020304 37 ≡ written carrier
   pub no-room : wrapping held 0x01020304 36 ≡ wrap.refused (plainly 68)
-  pub message-refused-first : wrapping (set held 0 5) 0x01020304 0 ≡ wrap.refused (passingOn 67 (record { number = 2 }))
+  pub message-refused-first : wrapping (set held 0 5) 0x01020304 0 ≡ wrap.refused (passingOn 67 (refusalBy 2 0))
   pub acknowledges : acknowledging 9 0x01020304 17 ≡ written reply
   pub no-room-acknowledged : acknowledging 9 0x01020304 16 ≡ wrap.refused (plainly 68)
 

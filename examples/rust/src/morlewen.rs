@@ -42,15 +42,19 @@ pub struct Message<'a> {
     pub integrity: u32,
 }
 
-/// A refusal: its number, and the number that reading gave, or 0.
+/// A refusal: its number, the number that reading gave, or 0, and the place in the message, or 0.
 #[derive(Debug, PartialEq)]
-pub struct Refused(pub u8, pub u8);
+pub struct Refused {
+    pub number: u8,
+    pub reading: u8,
+    pub place: u32,
+}
 
 /// Done with the value slot and the count slot, or refused.
 fn told(answer: u64) -> Result<(u32, u16), Refused> {
     match answer as u8 {
         0 => Ok(((answer >> 32) as u32, (answer >> 16) as u16)),
-        number => Err(Refused(number, (answer >> 8) as u8)),
+        number => Err(Refused { number, reading: (answer >> 8) as u8, place: (answer >> 32) as u32 }),
     }
 }
 

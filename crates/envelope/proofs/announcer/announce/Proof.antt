@@ -28,8 +28,8 @@ returns c = rw (lt-ltb _ _ (c .if1 .taken))
 judge-heading-requires : tie.Need-judge-heading-requires
 judge-heading-requires c κs = search needs
 
-enum-known-fault : tie.Need-enum-known-fault
-enum-known-fault c = search needs
+enum-known-refusal : tie.Need-enum-known-refusal
+enum-known-refusal c = search needs
 
 enum-told : tie.Need-enum-told
 enum-told c = search needs
@@ -39,7 +39,7 @@ announced-length-requires c κs = search needs
 
 returns-2 : tie.Need-returns-2
 unfolding announcing
-returns-2 c = rw (length-passed (c .before .before .before .before), by-heading (c .before .before .before) _ (c .before .fault .given .1))
+returns-2 c = rw (length-passed (c .before .before .before .before), by-heading (c .before .before .before) _ (c .before .refusal .given .1))
 
 returns-3 : tie.Need-returns-3
 unfolding announcing
@@ -52,7 +52,7 @@ announce-spec =
     (tie.spec
     returns
     judge-heading-requires
-    enum-known-fault
+    enum-known-refusal
     enum-told
     announced-length-requires
     returns-2

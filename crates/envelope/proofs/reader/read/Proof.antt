@@ -24,8 +24,8 @@ returns c = rw (lt-ltb _ _ (c .if1 .taken))
 judge-heading-requires : tie.Need-judge-heading-requires
 judge-heading-requires c κs = search needs
 
-enum-known-fault : tie.Need-enum-known-fault
-enum-known-fault c = search needs
+enum-known-refusal : tie.Need-enum-known-refusal
+enum-known-refusal c = search needs
 
 enum-told : tie.Need-enum-told
 enum-told c = search needs
@@ -35,7 +35,7 @@ read-whole-requires c κs = (omega arith, heading-kept c)
 
 returns-2 : tie.Need-returns-2
 unfolding reading
-returns-2 c = rw (length-passed (c .before .before .before .before), sym (ap toldHeading (sym (c .before .fault .given .1)) ∙ c .before .before .before .judge-heading .ensures))
+returns-2 c = rw (length-passed (c .before .before .before .before), sym (ap toldHeading (sym (c .before .refusal .given .1)) ∙ c .before .before .before .judge-heading .ensures))
 
 returns-3 : tie.Need-returns-3
 unfolding reading
@@ -47,7 +47,7 @@ read-spec =
     (tie.spec
     returns
     judge-heading-requires
-    enum-known-fault
+    enum-known-refusal
     enum-told
     read-whole-requires
     returns-2

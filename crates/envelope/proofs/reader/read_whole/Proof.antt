@@ -10,7 +10,7 @@ use lib.ListN.{length}
 use Rattle.envelope.proofs.BoolLaws.{missing, kept}
 use Rattle.envelope.proofs.HeadingLaws.{announced-is, heading-passed, kind-assigned, size-least}
 use Rattle.envelope.specs.Addresses.{badAddresses}
-use Rattle.envelope.specs.Fields.{accepted}
+use Rattle.envelope.specs.Fields.{accepted, refusedBy}
 use Rattle.envelope.specs.Flags.{kindOf}
 use Rattle.envelope.specs.Heading.{flagsOf, variableSize, fieldPlace, announced}
 use Rattle.envelope.specs.Helpers.{toldFoundAddressing, toldFoundIntegrity}
@@ -150,6 +150,7 @@ returns-3 c =
     let field = c .before .before in
     let seven = missing _ _ (ap toldFoundIntegrity (sym (c .enum-told2 .given .1)) ∙ field .integrity-of .ensures) in
     rw (length-kept (whole field), addresses-kept (field .before .before .before .before) .0, sym (tried field .0) ∙ seven)
+    (λ i. refusedBy 7 (place-is (whole field) i))
 
 returns-4 : tie.Need-returns-4
 unfolding readingWhole fieldsOf

@@ -2,6 +2,7 @@
 use mathlib.Core.Path.{ap, _∙_}
 use borrow.Author.Needs.{needs}
 use Rattle.envelope.specs.Fields.{Answer}
+use Rattle.exports.proofs.FitsLaws.{read-fits}
 use Rattle.exports.specs.Envelopes.{readSlots, fieldsAfter}
 use Rattle.exports.specs.Word.{word}
 use Rattle.exports.proofs.envelopes.morlewen_read.Statement.{statement}
@@ -14,7 +15,7 @@ put-fields-requires : tie.Need-put-fields-requires
 put-fields-requires c κs = search needs
 
 read-word-requires : tie.Need-read-word-requires
-read-word-requires c κs = search needs
+read-word-requires c κs = read-fits _ _ (λ k. c .before .before .before .shared-slice-known .given k .fits) (c .before .before .read .ensures)
 
 returns : tie.Need-returns
 returns c =

@@ -1,5 +1,6 @@
 -- `envelopes::read_word`: done, or the refusal of reading.
-use mathlib.Core.Path.{ap, sym, _∙_}
+use mathlib.Core.Path.{subst, ap, sym, _∙_}
+use Prim.Native.Nat.{_<_, _^_}
 use borrow.Author.Needs.{needs}
 use Rattle.envelope.specs.Told.{told}
 use Rattle.envelope.specs.declared.reader.Reading.{Reading}
@@ -18,7 +19,7 @@ enum-known-reading : tie.Need-enum-known-reading
 enum-known-reading c = search needs
 
 reading-answer-requires : tie.Need-reading-answer-requires
-reading-answer-requires c κs = search needs
+reading-answer-requires c κs = subst (λ (x : Reading). readSlots (told x) .value < 2 ^ 32) (c .before .reading .given .1) (c .before .before .before .pre)
 
 returns : tie.Need-returns
 returns c = c .answer .ensures ∙ ap (λ (x : Reading). word (readSlots (told x))) (sym (c .before .enum-told .given .1))

@@ -20,7 +20,7 @@ enum-known-rewriting-2 : tie.Need-enum-known-rewriting-2
 enum-known-rewriting-2 c = search needs
 
 reading-answer-requires : tie.Need-reading-answer-requires
-reading-answer-requires c κs = search needs
+reading-answer-requires c κs = subst (λ (x : Rewriting). rewriteSlots (toldRewriting x) .value < 2 ^ 32) (c .before .rewriting2 .given .1) (c .before .before .before .pre)
 
 enum-told : tie.Need-enum-told
 enum-told c = search needs

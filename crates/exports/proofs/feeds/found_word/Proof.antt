@@ -1,10 +1,12 @@
--- `feeds::found_word`: one case for each finding; a message's size fits its slot.
+-- `feeds::found_word`: one case for each finding; a message's size and a place fit their slot.
 use mathlib.Core.Path.{subst, ap, sym, _∙_}
-use Prim.Native.Nat.{ℕ, _<_, _^_}
+use Prim.Native.Nat.{_<_, _^_}
+use Rattle.envelope.specs.Refusals.{RefusalNumbers}
 use Rattle.feed.specs.Told.{toldFound}
 use Rattle.feed.specs.declared.step.Found.{Found}
+use Rattle.exports.proofs.FitsLaws.{told-place}
 use Rattle.exports.specs.Feeds.{foundSlots}
-use Rattle.exports.specs.Word.{word, slots}
+use Rattle.exports.specs.Word.{word, numbersSlots}
 use borrow.Author.Needs.{needs}
 use Rattle.exports.proofs.feeds.found_word.Statement.{statement}
 use Rattle.exports.proofs.feeds.found_word.Tie as tie
@@ -26,11 +28,13 @@ answer-requires-2 c κs =
 enum-known-found-2 : tie.Need-enum-known-found-2
 enum-known-found-2 c = search needs
 
-number-requires : tie.Need-number-requires
-number-requires c κs = search needs
+numbers-requires : tie.Need-numbers-requires
+numbers-requires c κs = search needs
 
-answer-requires-3 : tie.Need-answer-requires-3
-answer-requires-3 c κs = search needs
+refused-answer-requires : tie.Need-refused-answer-requires
+refused-answer-requires c κs =
+    let start = c .before .before .before .before in
+    (start .pre .0, told-place _ _ (c .numbers .ensures) (subst (λ (x : Found). foundSlots (toldFound x) (start .args .used) .value < 2 ^ 32) (c .before .before .found2 .given .1) (start .pre .1)))
 
 returns : tie.Need-returns
 returns c =
@@ -45,8 +49,8 @@ returns-2 c =
 returns-3 : tie.Need-returns-3
 returns-3 c =
     let start = c .before .before .before .before .before in
-    c .answer3 .ensures
-    ∙ ap (λ (n : ℕ). word (slots n 0 (start .args .used) 0)) (c .before .number .ensures)
+    c .refused-answer .ensures
+    ∙ ap (λ (n : RefusalNumbers). word (numbersSlots n (start .args .used))) (c .before .numbers .ensures)
     ∙ ap (λ (x : Found). word (foundSlots (toldFound x) (start .args .used))) (sym (c .before .before .before .found2 .given .1))
 
 pub found-word-spec : {M : Type 1} → statement M
@@ -58,8 +62,8 @@ found-word-spec =
     enum-known-found
     answer-requires-2
     enum-known-found-2
-    number-requires
-    answer-requires-3
+    numbers-requires
+    refused-answer-requires
     returns
     returns-2
     returns-3)

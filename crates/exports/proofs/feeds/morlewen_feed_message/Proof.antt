@@ -11,8 +11,8 @@ use borrow.Author.Needs.{needs}
 use Rattle.exports.proofs.feeds.morlewen_feed_message.Statement.{statement}
 use Rattle.exports.proofs.feeds.morlewen_feed_message.Tie as tie
 
-element-copy-out-held : tie.Need-element-copy-out-held
-element-copy-out-held c = search needs
+element-copy-out-count : tie.Need-element-copy-out-count
+element-copy-out-count c = search needs
 
 element-copy-out-standing-of : tie.Need-element-copy-out-standing-of
 element-copy-out-standing-of c = search needs
@@ -27,7 +27,7 @@ answer-requires : tie.Need-answer-requires
 answer-requires c κs =
     let args = c .before .before .before .before .before .args in
     let short = held-short (args .kept .now) (args .numbers .now) (c .before .standing-of .result) in
-    (omega arith, omega (arith, c .before .before .before .before .held-arg .given .0, ap length (c .held .ensures), short))
+    (omega arith, omega (arith, c .before .before .before .held-arg .given .0, ap length (c .held .ensures), short))
 
 returns : tie.Need-returns
 returns c =
@@ -40,7 +40,7 @@ pub morlewen-feed-message-spec : {M : Type 1} → statement M
 morlewen-feed-message-spec =
     tie.close
     (tie.spec
-    element-copy-out-held
+    element-copy-out-count
     element-copy-out-standing-of
     standing-of-requires
     held-requires

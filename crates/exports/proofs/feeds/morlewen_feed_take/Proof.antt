@@ -1,8 +1,11 @@
 -- `feeds::morlewen_feed_take`: the promise of `advance`, told in a word, in two numbers and in sixteen.
 use mathlib.Core.List.{[], _∷_}
-use mathlib.Core.Path.{ap, _∙_}
+use mathlib.Core.Path.{ap, sym, subst, _∙_}
+use lib.ListN.{getD}
 use Rattle.feed.specs.Feeding.{State, FeedOutcome, taking}
-use Rattle.exports.proofs.FeedLaws.{state-lent}
+use Rattle.feed.specs.Places.{CountTellsPlace}
+use Rattle.feed.specs.Told.{stateOf, toldStep}
+use Rattle.exports.proofs.FeedLaws.{state-lent, stored-tells-place}
 use Rattle.exports.proofs.FitsLaws.{take-fits}
 use Rattle.exports.specs.Feeds.{foundSlots, lentAfter}
 use Rattle.exports.specs.Word.{word}
@@ -10,8 +13,8 @@ use borrow.Author.Needs.{needs}
 use Rattle.exports.proofs.feeds.morlewen_feed_take.Statement.{statement}
 use Rattle.exports.proofs.feeds.morlewen_feed_take.Tie as tie
 
-element-copy-out-advance : tie.Need-element-copy-out-advance
-element-copy-out-advance c = search needs
+element-copy-out-count : tie.Need-element-copy-out-count
+element-copy-out-count c = search needs
 
 element-copy-out-standing-of : tie.Need-element-copy-out-standing-of
 element-copy-out-standing-of c = search needs
@@ -29,7 +32,13 @@ put-found-requires : tie.Need-put-found-requires
 put-found-requires c κs = search needs
 
 found-word-requires : tie.Need-found-word-requires
-found-word-requires c κs = take-fits _ (c .before .before .before .before .advance .ensures .1)
+found-word-requires c κs =
+    let step = c .before .before .before .before .advance in
+    let args = c .before .before .before .before .before .before .before .before .before .before .args in
+    let stood = c .before .before .before .before .before .standing-of in
+    let stands = state-lent (args .kept .now) (args .numbers .now) (stood .result) (stood .ensures) in
+    take-fits (stateOf (args .kept .now) (getD (args .numbers .now) 0 0) (stood .result)) (toldStep (step .result) (step .last .0))
+    (subst CountTellsPlace (sym stands) (stored-tells-place (args .kept .now) (args .numbers .now))) (step .ensures .1) (step .ensures .2)
 
 returns : tie.Need-returns
 returns c =
@@ -50,7 +59,7 @@ pub morlewen-feed-take-spec : {M : Type 1} → statement M
 morlewen-feed-take-spec =
     tie.close
     (tie.spec
-    element-copy-out-advance
+    element-copy-out-count
     element-copy-out-standing-of
     standing-of-requires
     advance-requires

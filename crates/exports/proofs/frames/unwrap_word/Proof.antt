@@ -6,6 +6,7 @@ use borrow.Author.Needs.{needs}
 use Rattle.envelope.specs.Refusals.{RefusalNumbers}
 use Rattle.frame.specs.Unwrapping.{toldUnwrapped}
 use Rattle.frame.specs.declared.unwrapper.Unwrapped.{Unwrapped}
+use Rattle.exports.proofs.FitsLaws.{told-place}
 use Rattle.exports.specs.Frames.{unwrapSlots}
 use Rattle.exports.specs.Word.{word, numbersSlots}
 use Rattle.exports.proofs.frames.unwrap_word.Statement.{statement}
@@ -36,7 +37,7 @@ numbers-requires : tie.Need-numbers-requires
 numbers-requires c κs = search needs
 
 refused-answer-requires : tie.Need-refused-answer-requires
-refused-answer-requires c κs = search needs
+refused-answer-requires c κs = (omega arith, told-place _ _ (c .numbers .ensures) (subst (λ (x : Unwrapped). unwrapSlots (toldUnwrapped x) .value < 2 ^ 32) (c .before .before .unwrapped2 .given .1) (c .before .before .before .before .pre)))
 
 returns : tie.Need-returns
 returns c = c .answer .ensures ∙ ap (λ (x : Unwrapped). word (unwrapSlots (toldUnwrapped x))) (sym (c .before .before .before .unwrapped .given .1))

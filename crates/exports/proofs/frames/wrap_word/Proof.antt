@@ -6,6 +6,7 @@ use borrow.Author.Needs.{needs}
 use Rattle.envelope.specs.Refusals.{RefusalNumbers}
 use Rattle.frame.specs.Wrapping.{toldWrapped}
 use Rattle.frame.specs.declared.wrapper.Wrapped.{Wrapped}
+use Rattle.exports.proofs.FitsLaws.{told-place}
 use Rattle.exports.specs.Frames.{wrapSlots}
 use Rattle.exports.specs.Word.{word, numbersSlots}
 use Rattle.exports.proofs.frames.wrap_word.Statement.{statement}
@@ -24,7 +25,7 @@ numbers-requires : tie.Need-numbers-requires
 numbers-requires c κs = search needs
 
 refused-answer-requires : tie.Need-refused-answer-requires
-refused-answer-requires c κs = search needs
+refused-answer-requires c κs = (omega arith, told-place _ _ (c .numbers .ensures) (subst (λ (x : Wrapped). wrapSlots (toldWrapped x) .value < 2 ^ 32) (c .before .before .wrapped2 .given .1) (c .before .before .before .before .pre)))
 
 returns : tie.Need-returns
 returns c = c .answer .ensures ∙ ap (λ (x : Wrapped). word (wrapSlots (toldWrapped x))) (sym (c .before .before .wrapped .given .1))

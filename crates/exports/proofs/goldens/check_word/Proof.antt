@@ -6,6 +6,7 @@ use borrow.Author.Needs.{needs}
 use Rattle.envelope.specs.Refusals.{RefusalNumbers}
 use Rattle.golden.specs.Checking.{toldChecking}
 use Rattle.golden.specs.declared.checker.Checking.{Checking}
+use Rattle.exports.proofs.FitsLaws.{told-place}
 use Rattle.exports.specs.Goldens.{checkSlots}
 use Rattle.exports.specs.Word.{word, numbersSlots}
 use Rattle.exports.proofs.goldens.check_word.Statement.{statement}
@@ -15,7 +16,7 @@ enum-known-checking : tie.Need-enum-known-checking
 enum-known-checking c = search needs
 
 answer-requires : tie.Need-answer-requires
-answer-requires c κs = (subst (λ (x : Checking). checkSlots (toldChecking x) .count < 2 ^ 16) (c .before .checking .given .1) (c .before .before .before .pre), omega arith)
+answer-requires c κs = (subst (λ (x : Checking). checkSlots (toldChecking x) .count < 2 ^ 16) (c .before .checking .given .1) (c .before .before .before .pre .0), omega arith)
 
 enum-known-checking-2 : tie.Need-enum-known-checking-2
 enum-known-checking-2 c = search needs
@@ -24,7 +25,7 @@ numbers-requires : tie.Need-numbers-requires
 numbers-requires c κs = search needs
 
 refused-answer-requires : tie.Need-refused-answer-requires
-refused-answer-requires c κs = subst (λ (x : Checking). checkSlots (toldChecking x) .count < 2 ^ 16) (c .before .before .checking2 .given .1) (c .before .before .before .before .pre)
+refused-answer-requires c κs = (subst (λ (x : Checking). checkSlots (toldChecking x) .count < 2 ^ 16) (c .before .before .checking2 .given .1) (c .before .before .before .before .pre .0), told-place _ _ (c .numbers .ensures) (subst (λ (x : Checking). checkSlots (toldChecking x) .value < 2 ^ 32) (c .before .before .checking2 .given .1) (c .before .before .before .before .pre .1)))
 
 returns : tie.Need-returns
 returns c = c .answer .ensures ∙ ap (λ (x : Checking). word (checkSlots (toldChecking x))) (sym (c .before .before .checking .given .1))

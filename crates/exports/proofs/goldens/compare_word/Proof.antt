@@ -6,6 +6,7 @@ use borrow.Author.Needs.{needs}
 use Rattle.envelope.specs.Refusals.{RefusalNumbers}
 use Rattle.golden.specs.Comparing.{toldComparison}
 use Rattle.golden.specs.declared.comparer.Comparison.{Comparison}
+use Rattle.exports.proofs.FitsLaws.{told-place}
 use Rattle.exports.specs.Goldens.{compareSlots}
 use Rattle.exports.specs.Word.{word, numbersSlots}
 use Rattle.exports.proofs.goldens.compare_word.Statement.{statement}
@@ -30,7 +31,7 @@ numbers-requires : tie.Need-numbers-requires
 numbers-requires c κs = search needs
 
 refused-answer-requires : tie.Need-refused-answer-requires
-refused-answer-requires c κs = search needs
+refused-answer-requires c κs = (omega arith, told-place _ _ (c .numbers .ensures) (subst (λ (x : Comparison). compareSlots (toldComparison x) .value < 2 ^ 32) (c .before .before .comparison2 .given .1) (c .before .before .before .before .pre)))
 
 returns : tie.Need-returns
 returns c = c .answer .ensures ∙ ap (λ (x : Comparison). word (compareSlots (toldComparison x))) (sym (c .before .enum-told .given .1))

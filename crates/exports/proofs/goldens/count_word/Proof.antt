@@ -6,6 +6,7 @@ use borrow.Author.Needs.{needs}
 use Rattle.envelope.specs.Refusals.{RefusalNumbers}
 use Rattle.golden.specs.Listing.{toldCounting}
 use Rattle.golden.specs.declared.lister.Counting.{Counting}
+use Rattle.exports.proofs.FitsLaws.{told-place}
 use Rattle.exports.specs.Goldens.{countSlots}
 use Rattle.exports.specs.Word.{word, numbersSlots}
 use Rattle.exports.proofs.goldens.count_word.Statement.{statement}
@@ -15,7 +16,7 @@ enum-known-counting : tie.Need-enum-known-counting
 enum-known-counting c = search needs
 
 answer-requires : tie.Need-answer-requires
-answer-requires c κs = (subst (λ (x : Counting). countSlots (toldCounting x) .count < 2 ^ 16) (c .before .counting .given .1) (c .before .before .before .pre), omega arith)
+answer-requires c κs = (subst (λ (x : Counting). countSlots (toldCounting x) .count < 2 ^ 16) (c .before .counting .given .1) (c .before .before .before .pre .0), omega arith)
 
 enum-known-counting-2 : tie.Need-enum-known-counting-2
 enum-known-counting-2 c = search needs
@@ -24,7 +25,7 @@ numbers-requires : tie.Need-numbers-requires
 numbers-requires c κs = search needs
 
 refused-answer-requires : tie.Need-refused-answer-requires
-refused-answer-requires c κs = search needs
+refused-answer-requires c κs = (omega arith, told-place _ _ (c .numbers .ensures) (subst (λ (x : Counting). countSlots (toldCounting x) .value < 2 ^ 32) (c .before .before .counting2 .given .1) (c .before .before .before .before .pre .1)))
 
 returns : tie.Need-returns
 returns c = c .answer .ensures ∙ ap (λ (x : Counting). word (countSlots (toldCounting x))) (sym (c .before .before .counting .given .1))

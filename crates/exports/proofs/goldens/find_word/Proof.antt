@@ -5,6 +5,7 @@ use borrow.Author.Needs.{needs}
 use Rattle.envelope.specs.Refusals.{RefusalNumbers}
 use Rattle.golden.specs.Finding.{toldFinding}
 use Rattle.golden.specs.declared.finder.Finding.{Finding}
+use Rattle.exports.proofs.FitsLaws.{told-place}
 use Rattle.exports.specs.Goldens.{findSlots}
 use Rattle.exports.specs.Word.{word, numbersSlots}
 use Rattle.exports.proofs.goldens.find_word.Statement.{statement}
@@ -23,7 +24,7 @@ numbers-requires : tie.Need-numbers-requires
 numbers-requires c κs = search needs
 
 refused-answer-requires : tie.Need-refused-answer-requires
-refused-answer-requires c κs = subst (λ (x : Finding). findSlots (toldFinding x) .count < 2 ^ 16) (c .before .before .finding2 .given .1) (c .before .before .before .before .pre .0)
+refused-answer-requires c κs = (subst (λ (x : Finding). findSlots (toldFinding x) .count < 2 ^ 16) (c .before .before .finding2 .given .1) (c .before .before .before .before .pre .0), told-place _ _ (c .numbers .ensures) (subst (λ (x : Finding). findSlots (toldFinding x) .value < 2 ^ 32) (c .before .before .finding2 .given .1) (c .before .before .before .before .pre .1)))
 
 returns : tie.Need-returns
 returns c = c .answer .ensures ∙ ap (λ (x : Finding). word (findSlots (toldFinding x))) (sym (c .before .before .finding .given .1))

@@ -1,9 +1,12 @@
 -- `goldens::line_word`: one case for each answer.
-use mathlib.Core.Path.{ap, sym, _∙_}
+use mathlib.Core.Path.{subst, ap, sym, _∙_}
+use Prim.Native.Nat.{_<_, _^_}
+use native.Mathlib.Omega.{arith}
 use borrow.Author.Needs.{needs}
 use Rattle.envelope.specs.Refusals.{RefusalNumbers}
 use Rattle.golden.specs.Listing.{toldEntry}
 use Rattle.golden.specs.declared.lister.Entry.{Entry}
+use Rattle.exports.proofs.FitsLaws.{told-place}
 use Rattle.exports.specs.Goldens.{lineSlots}
 use Rattle.exports.specs.Word.{word, numbersSlots}
 use Rattle.exports.proofs.goldens.line_word.Statement.{statement}
@@ -22,7 +25,7 @@ numbers-requires : tie.Need-numbers-requires
 numbers-requires c κs = search needs
 
 refused-answer-requires : tie.Need-refused-answer-requires
-refused-answer-requires c κs = search needs
+refused-answer-requires c κs = (omega arith, told-place _ _ (c .numbers .ensures) (subst (λ (x : Entry). lineSlots (toldEntry x) .value < 2 ^ 32) (c .before .before .found .given .1) (c .before .before .before .before .pre)))
 
 returns : tie.Need-returns
 returns c = c .answer .ensures ∙ ap (λ (x : Entry). word (lineSlots (toldEntry x))) (sym (c .before .enum-told .given .1))

@@ -2,6 +2,7 @@
 use mathlib.Core.Path.{ap, _∙_}
 use borrow.Author.Needs.{needs}
 use Rattle.golden.specs.Listing.{EntryAnswer}
+use Rattle.exports.proofs.FitsLaws.{line-fits}
 use Rattle.exports.specs.Goldens.{lineSlots, lineAfter}
 use Rattle.exports.specs.Word.{word}
 use Rattle.exports.proofs.goldens.morlewen_line.Statement.{statement}
@@ -14,7 +15,7 @@ put-line-requires : tie.Need-put-line-requires
 put-line-requires c κs = search needs
 
 line-word-requires : tie.Need-line-word-requires
-line-word-requires c κs = search needs
+line-word-requires c κs = line-fits _ _ _ (c .before .before .entry-at .ensures)
 
 returns : tie.Need-returns
 returns c =

@@ -2,6 +2,7 @@
 use mathlib.Core.Path.{ap, _∙_}
 use borrow.Author.Needs.{needs}
 use Rattle.golden.specs.Making.{MakeAnswer}
+use Rattle.exports.proofs.FitsLaws.{make-fits}
 use Rattle.exports.specs.Goldens.{makeSlots}
 use Rattle.exports.specs.Word.{word}
 use Rattle.exports.proofs.goldens.morlewen_make.Statement.{statement}
@@ -11,7 +12,7 @@ make-requires : tie.Need-make-requires
 make-requires c κs = search needs
 
 make-word-requires : tie.Need-make-word-requires
-make-word-requires c κs = search needs
+make-word-requires c κs = make-fits _ _ _ (c .before .before .make .ensures .0)
 
 same-length : tie.Need-same-length
 same-length c = search needs

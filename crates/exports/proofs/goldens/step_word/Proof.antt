@@ -5,6 +5,7 @@ use borrow.Author.Needs.{needs}
 use Rattle.envelope.specs.Refusals.{RefusalNumbers}
 use Rattle.golden.specs.Stepping.{toldReached}
 use Rattle.golden.specs.declared.stepper.Reached.{Reached}
+use Rattle.exports.proofs.FitsLaws.{told-place}
 use Rattle.exports.specs.Goldens.{stepSlots}
 use Rattle.exports.specs.Word.{word, numbersSlots}
 use Rattle.exports.proofs.goldens.step_word.Statement.{statement}
@@ -23,7 +24,7 @@ numbers-requires : tie.Need-numbers-requires
 numbers-requires c κs = search needs
 
 refused-answer-requires : tie.Need-refused-answer-requires
-refused-answer-requires c κs = search needs
+refused-answer-requires c κs = (c .before .before .before .before .pre .0, told-place _ _ (c .numbers .ensures) (subst (λ (x : Reached). stepSlots (toldReached x) (c .before .before .before .before .args .on) .value < 2 ^ 32) (c .before .before .reached2 .given .1) (c .before .before .before .before .pre .1)))
 
 enum-told : tie.Need-enum-told
 enum-told c = search needs

@@ -1,9 +1,9 @@
 -- `verdicts::morlewen_judge`: the promises of `judge` and `lowest`, told in a word and in seven numbers.
 use mathlib.Core.Path.{ap, _∙_}
-use Prim.Native.Nat.{ℕ}
-use Rattle.judge.specs.Rules.{RuleAnswers}
-use Rattle.exports.specs.Verdicts.{verdictNumbers, judgeSlots}
-use Rattle.exports.specs.Word.{word, slots}
+use Rattle.judge.specs.Rules.{RuleAnswers, LowestAnswer, brokenRules, lowestOf}
+use Rattle.exports.proofs.VerdictLaws.{lowest-fits}
+use Rattle.exports.specs.Verdicts.{verdictNumbers, lowestSlots, judgeSlots}
+use Rattle.exports.specs.Word.{word}
 use borrow.Author.Needs.{needs}
 use Rattle.exports.proofs.verdicts.morlewen_judge.Statement.{statement}
 use Rattle.exports.proofs.verdicts.morlewen_judge.Tie as tie
@@ -17,14 +17,16 @@ verdict-numbers-requires c κs = search needs
 lowest-requires : tie.Need-lowest-requires
 lowest-requires c κs = search needs
 
-answer-requires : tie.Need-answer-requires
-answer-requires c κs = search needs
+lowest-word-requires : tie.Need-lowest-word-requires
+lowest-word-requires c κs =
+    let judges = c .before .before .judge .ensures in
+    lowest-fits _ _ (λ k. c .before .before .before .shared-slice-known .given k .fits) (c .lowest .ensures ∙ ap (λ (j : RuleAnswers). lowestOf (brokenRules j)) judges)
 
 returns : tie.Need-returns
 returns c =
     let judges = c .before .before .before .judge .ensures in (
-      c .answer .ensures
-          ∙ ap (λ (n : ℕ). word (slots 0 n 0 0)) (c .before .lowest .ensures)
+      c .lowest-word .ensures
+          ∙ ap (λ (l : LowestAnswer). word (lowestSlots l)) (c .before .lowest .ensures)
           ∙ ap (λ (j : RuleAnswers). word (judgeSlots j)) judges,
       c .before .before .verdict-numbers .ensures ∙ ap verdictNumbers judges,
     )
@@ -32,4 +34,4 @@ returns c =
 pub morlewen-judge-spec : {M : Type 1} → statement M
 morlewen-judge-spec =
     tie.close
-    (tie.spec judge-requires verdict-numbers-requires lowest-requires answer-requires returns)
+    (tie.spec judge-requires verdict-numbers-requires lowest-requires lowest-word-requires returns)

@@ -9,6 +9,7 @@ use Rattle.envelope.proofs.AddressLaws.{addresses-present}
 use Rattle.envelope.specs.Addresses.{twoAddresses}
 use Rattle.envelope.specs.Heading.{variableSize}
 use Rattle.envelope.specs.Layout.{headerSize, addressesPlace}
+use Rattle.envelope.specs.Layout.{addressesPlace}
 use Rattle.judge.proofs.VerdictLaws.{addresses-cut, addresses-small, addresses-large, addresses-far, addresses-near}
 use Rattle.judge.specs.Rules.{judged}
 use Rattle.judge.proofs.rules.addresses.Statement.{statement}
@@ -62,7 +63,7 @@ returns-5 c =
     let v = c .before .before .before .before .before .before .size-in .ensures .0 in
     let region = ap (λ (n : ℕ). not (twoAddresses (take (headerSize + n - addressesPlace) (drop addressesPlace s)))) v in
     let bad = c .before .bad-region .ensures ∙ region ∙ sym (addresses-present s (variableSize s) (omega arith)) in
-    c .verdict .ensures ∙ ap judged bad ∙ sym (addresses-near s (omega arith) (omega arith) (omega arith))
+    c .verdict .ensures ∙ ap (judged addressesPlace) bad ∙ sym (addresses-near s (omega arith) (omega arith) (omega arith))
 
 pub addresses-spec : {M : Type 1} → statement M
 addresses-spec =

@@ -1,43 +1,33 @@
--- `Refusal::numbers` is the table of refusals.
+-- `Refusal::numbers`: 67 with what reading refused, or a number alone.
+use mathlib.Core.List.{[], _∷_}
+use mathlib.Core.Path.{_≡_, refl, ap, sym, _∙_}
+use Prim.Native.Nat.{ℕ}
 use borrow.Author.Needs.{needs}
+use denote.Enum.Declared.{tagOf}
+use types.Run.{OneOf, miss}
+use Rattle.envelope.specs.Refusals.{plainly, passingOn, numbersOf}
+use Rattle.envelope.specs.Told.{toldRefusal}
+use Rattle.frame.specs.Refusal.{toldFrameRefusal}
+use Rattle.frame.specs.declared.refusal.Refusal.{Refusal}
+use Rattle.frame.specs.declared.refusal.Refusal.the-variants.{TooShort, NoStx, WrongVersion, OtherType, WrongLength, NoEtx, MessageRefused, NoRoom}
+use Rattle.frame.proofs.refusal.Refusal as type
 use Rattle.frame.proofs.refusal.Refusal.numbers.Statement.{statement}
 use Rattle.frame.proofs.refusal.Refusal.numbers.Tie as tie
 
-enum-told : tie.Need-enum-told
-enum-told c = search needs
+-- the last arm, by the places in the enum
+told-plainly : (r : Refusal) → OneOf (0 ∷ 1 ∷ 2 ∷ 3 ∷ 4 ∷ 5 ∷ 7 ∷ []) (tagOf type.the-type r)
+    → numbersOf (plainly (numbersOf (toldFrameRefusal r) .number)) ≡ numbersOf (toldFrameRefusal r)
+told-plainly TooShort h = refl
+told-plainly NoStx h = refl
+told-plainly WrongVersion h = refl
+told-plainly OtherType h = refl
+told-plainly WrongLength h = refl
+told-plainly NoEtx h = refl
+told-plainly (MessageRefused r) h = absurd (miss (0 ∷ 1 ∷ 2 ∷ 3 ∷ 4 ∷ 5 ∷ 7 ∷ []) 6 tt h)
+told-plainly NoRoom h = refl
 
-plainly-requires : tie.Need-plainly-requires
-plainly-requires c κs = search needs
-
-enum-told-2 : tie.Need-enum-told-2
-enum-told-2 c = search needs
-
-plainly-requires-2 : tie.Need-plainly-requires-2
-plainly-requires-2 c κs = search needs
-
-enum-told-3 : tie.Need-enum-told-3
-enum-told-3 c = search needs
-
-plainly-requires-3 : tie.Need-plainly-requires-3
-plainly-requires-3 c κs = search needs
-
-enum-told-4 : tie.Need-enum-told-4
-enum-told-4 c = search needs
-
-plainly-requires-4 : tie.Need-plainly-requires-4
-plainly-requires-4 c κs = search needs
-
-enum-told-5 : tie.Need-enum-told-5
-enum-told-5 c = search needs
-
-plainly-requires-5 : tie.Need-plainly-requires-5
-plainly-requires-5 c κs = search needs
-
-enum-told-6 : tie.Need-enum-told-6
-enum-told-6 c = search needs
-
-plainly-requires-6 : tie.Need-plainly-requires-6
-plainly-requires-6 c κs = search needs
+number-requires : tie.Need-number-requires
+number-requires c κs = search needs
 
 enum-known-self : tie.Need-enum-known-self
 enum-known-self c = search needs
@@ -45,61 +35,29 @@ enum-known-self c = search needs
 passing-on-requires : tie.Need-passing-on-requires
 passing-on-requires c κs = search needs
 
-enum-told-7 : tie.Need-enum-told-7
-enum-told-7 c = search needs
-
-plainly-requires-7 : tie.Need-plainly-requires-7
-plainly-requires-7 c κs = search needs
+plainly-requires : tie.Need-plainly-requires
+plainly-requires c κs = search needs
 
 returns : tie.Need-returns
-returns c = rw (c .before .enum-told .given .1) (c .plainly .ensures)
+returns c =
+    let given = c .before .before .self .given .1 in
+    let number = c .before .before .before .before .number .ensures ∙ ap (λ (x : Refusal). numbersOf (toldFrameRefusal x) .number) given in
+    let refusal = toldRefusal (c .before .before .self .given .0 .0) in
+    c .passing-on .ensures ∙ ap (λ (n : ℕ). numbersOf (passingOn n refusal)) number ∙ sym (ap (λ (x : Refusal). numbersOf (toldFrameRefusal x)) given)
 
 returns-2 : tie.Need-returns-2
-returns-2 c = rw (c .before .enum-told2 .given .1) (c .plainly2 .ensures)
-
-returns-3 : tie.Need-returns-3
-returns-3 c = rw (c .before .enum-told3 .given .1) (c .plainly3 .ensures)
-
-returns-4 : tie.Need-returns-4
-returns-4 c = rw (c .before .enum-told4 .given .1) (c .plainly4 .ensures)
-
-returns-5 : tie.Need-returns-5
-returns-5 c = rw (c .before .enum-told5 .given .1) (c .plainly5 .ensures)
-
-returns-6 : tie.Need-returns-6
-returns-6 c = rw (c .before .enum-told6 .given .1) (c .plainly6 .ensures)
-
-returns-7 : tie.Need-returns-7
-returns-7 c = rw (c .before .before .self .given .1) (c .passing-on .ensures)
-
-returns-8 : tie.Need-returns-8
-returns-8 c = rw (c .before .enum-told7 .given .1) (c .plainly7 .ensures)
+returns-2 c =
+    c .plainly .ensures
+    ∙ ap (λ (n : ℕ). numbersOf (plainly n)) (c .before .before .number .ensures)
+    ∙ told-plainly (c .before .before .before .args .self) (c .before .match .keys2)
 
 pub numbers-spec : {M : Type 1} → statement M
 numbers-spec =
     tie.close
     (tie.spec
-    enum-told
-    plainly-requires
-    enum-told-2
-    plainly-requires-2
-    enum-told-3
-    plainly-requires-3
-    enum-told-4
-    plainly-requires-4
-    enum-told-5
-    plainly-requires-5
-    enum-told-6
-    plainly-requires-6
+    number-requires
     enum-known-self
     passing-on-requires
-    enum-told-7
-    plainly-requires-7
+    plainly-requires
     returns
-    returns-2
-    returns-3
-    returns-4
-    returns-5
-    returns-6
-    returns-7
-    returns-8)
+    returns-2)
