@@ -3,12 +3,14 @@
 
 pub mod framed;
 pub mod judged;
+pub mod placed;
 
-/// A message and its answer: 0 where it is accepted, else the refusal's number.
+/// A message and its answer: 0 and 0 where it is accepted, else the refusal's number and place.
 pub struct Case {
     pub name: &'static str,
     pub message: Vec<u8>,
     pub answer: u8,
+    pub place: usize,
 }
 
 /// Known CRC-32 values from outside.
@@ -72,22 +74,22 @@ pub fn messages() -> Vec<Case> {
     let longer = [shortest(), vec![0]].concat();
     let [left, right] = one_letter_ends();
     let table = [
-        ("a", shortest(), 0),
-        ("b", shortest()[..20].to_vec(), 1),
-        ("c", changed(0, 3), 2),
-        ("d", changed(16, 5), 4),
-        ("e", longer, 5),
-        ("f", changed(20, 1), 7),
-        ("g", one_body_byte(), 0),
-        ("h", with_ends(6, &[0, 0]), 0),
-        ("i, two letters", with_ends(7, b"AA\0"), 6),
-        ("i, source", left, 0),
-        ("i, destination", right, 0),
-        ("j", with_ends(132, &lettered_ends(63, 63)), 0),
-        ("j, V 133", with_ends(133, &lettered_ends(64, 63)), 4),
-        ("j, 64 letters", with_ends(132, &lettered_ends(64, 62)), 6),
+        ("a", shortest(), 0, 0),
+        ("b", shortest()[..20].to_vec(), 1, 20),
+        ("c", changed(0, 3), 2, 0),
+        ("d", changed(16, 5), 4, 16),
+        ("e", longer, 5, 5),
+        ("f", changed(20, 1), 7, 17),
+        ("g", one_body_byte(), 0, 0),
+        ("h", with_ends(6, &[0, 0]), 0, 0),
+        ("i, two letters", with_ends(7, b"AA\0"), 6, 21),
+        ("i, source", left, 0, 0),
+        ("i, destination", right, 0, 0),
+        ("j", with_ends(132, &lettered_ends(63, 63)), 0, 0),
+        ("j, V 133", with_ends(133, &lettered_ends(64, 63)), 4, 16),
+        ("j, 64 letters", with_ends(132, &lettered_ends(64, 62)), 6, 21),
     ];
-    table.into_iter().map(|(name, message, answer)| Case { name, message, answer }).collect()
+    table.into_iter().map(|(name, message, answer, place)| Case { name, message, answer, place }).collect()
 }
 
 /// The file of the listing case: M in a record, then the same record with a stored length of 20.
@@ -100,4 +102,4 @@ pub fn listed_file() -> Vec<u8> {
 }
 
 /// How that file is listed.
-pub const LISTING: &str = "records 2\n0 6000 1 21\n1 refused 23 0\n";
+pub const LISTING: &str = "records 2\n0 6000 1 21\n1 refused 23 0 0\n";

@@ -20,16 +20,51 @@ pub const LONGEST_BODY: usize = 0xFF_FFFF;
 
 const HEADER_VERSION: u8 = 4;
 
-/// Why a message is not read.
+/// Why a message is not read, and where. A place that the number does not tell by itself goes with it.
 #[derive(Clone, Copy, Debug, PartialEq, Eq)]
 pub enum Unread {
-    TooShort = 1,
-    HeaderVersion = 2,
-    Flags = 3,
-    VariableSize = 4,
-    Length = 5,
-    Addresses = 6,
-    Integrity = 7,
+    TooShort { place: usize },
+    HeaderVersion,
+    Flags,
+    VariableSize,
+    Length,
+    Addresses,
+    Integrity { place: usize },
+}
+
+impl Unread {
+    /// The refusal's number, and its place, counted from the message's first byte. Whoever is told one is told both.
+    pub fn numbers(self) -> (u8, usize) {
+        match self {
+            Unread::TooShort { place } => (1, place),
+            Unread::HeaderVersion => (2, 0),
+            Unread::Flags => (3, 4),
+            Unread::VariableSize => (4, 16),
+            Unread::Length => (5, 5),
+            Unread::Addresses => (6, 21),
+            Unread::Integrity { place } => (7, place),
+        }
+    }
+
+    /// The same behind the number of a refusal that passes it on.
+    pub fn passed_on(self, by: u8) -> (u8, u8, usize) {
+        let (number, place) = self.numbers();
+        (by, number, place)
+    }
+
+    /// The refusal that has this number, if one has, of a message of so many bytes.
+    pub fn of(number: u64, length: usize) -> Option<Unread> {
+        match number {
+            1 => Some(Unread::TooShort { place: length }),
+            2 => Some(Unread::HeaderVersion),
+            3 => Some(Unread::Flags),
+            4 => Some(Unread::VariableSize),
+            5 => Some(Unread::Length),
+            6 => Some(Unread::Addresses),
+            7 => Some(Unread::Integrity { place: length.saturating_sub(FIELD) }),
+            _ => None,
+        }
+    }
 }
 
 /// Why a message is not written.
@@ -116,7 +151,7 @@ pub fn heading(head: &[u8; COMMON]) -> Result<Heading, Unread> {
 pub fn read<S: Sum>(message: &[u8]) -> Result<Fields, Unread> {
     let head = match message.first_chunk() {
         Some(head) if message.len() >= SHORTEST => head,
-        _ => return Err(Unread::TooShort),
+        _ => return Err(Unread::TooShort { place: message.len() }),
     };
     let Heading { kind, variable, announced } = heading(head)?;
     if announced != message.len() {
@@ -126,7 +161,7 @@ pub fn read<S: Sum>(message: &[u8]) -> Result<Fields, Unread> {
         0 => None,
         _ => Some(addressing(&message[..COMMON + variable]).ok_or(Unread::Addresses)?),
     };
-    let integrity = integrity::<S>(kind, message).ok_or(Unread::Integrity)?;
+    let integrity = integrity::<S>(kind, message).ok_or(Unread::Integrity { place: announced - FIELD })?;
     Ok(Fields {
         message_type: number(&message[1..3]) as u16,
         message_version: message[3],
@@ -371,8 +406,8 @@ mod tests {
     #[test]
     fn lettered_messages_are_judged_as_told() {
         for case in cases::messages() {
-            let number = read::<Division>(&case.message).map_or_else(|unread| unread as u8, |_| 0);
-            assert_eq!(number, case.answer, "case {}", case.name);
+            let numbers = read::<Division>(&case.message).map_or_else(Unread::numbers, |_| (0, 0));
+            assert_eq!(numbers, (case.answer, case.place), "case {}", case.name);
         }
     }
 

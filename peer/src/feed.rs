@@ -18,11 +18,21 @@ pub enum Refusal {
 }
 
 impl Refusal {
-    pub fn number(self) -> u8 {
+    /// The refusal's number, and its place in the message, or 0 where it has none.
+    pub fn numbers(self) -> (u8, usize) {
         match self {
-            Refusal::Unread(unread) => unread as u8,
-            Refusal::TooLong => 51,
-            Refusal::Cut => 52,
+            Refusal::Unread(unread) => unread.numbers(),
+            Refusal::TooLong => (51, 0),
+            Refusal::Cut => (52, 0),
+        }
+    }
+
+    /// The refusal that has this number, if one has, where it stands with so many bytes in: the two tell its place.
+    pub fn standing(number: u64, count: usize) -> Option<Refusal> {
+        match number {
+            51 => Some(Refusal::TooLong),
+            52 => Some(Refusal::Cut),
+            _ => Unread::of(number, count.min(LONGEST)).map(Refusal::Unread),
         }
     }
 }

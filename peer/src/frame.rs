@@ -36,18 +36,18 @@ pub enum Refusal {
 }
 
 impl Refusal {
-    /// The refusal's number, and the number reading gave or 0.
-    pub fn numbers(self) -> (u8, u8) {
+    /// The refusal's number, and the number and the place that reading gave, or 0 and 0.
+    pub fn numbers(self) -> (u8, u8, usize) {
         match self {
-            Refusal::TooShort => (61, 0),
-            Refusal::NoStx => (62, 0),
-            Refusal::Version => (63, 0),
-            Refusal::Type => (64, 0),
-            Refusal::Length => (65, 0),
-            Refusal::NoEtx => (66, 0),
-            Refusal::Message(unread) => (67, unread as u8),
-            Refusal::TooLong => (69, 0),
-            Refusal::NoRoom => (68, 0),
+            Refusal::TooShort => (61, 0, 0),
+            Refusal::NoStx => (62, 0, 0),
+            Refusal::Version => (63, 0, 0),
+            Refusal::Type => (64, 0, 0),
+            Refusal::Length => (65, 0, 0),
+            Refusal::NoEtx => (66, 0, 0),
+            Refusal::Message(unread) => unread.passed_on(67),
+            Refusal::TooLong => (69, 0, 0),
+            Refusal::NoRoom => (68, 0, 0),
         }
     }
 }

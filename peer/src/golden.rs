@@ -26,19 +26,19 @@ pub enum Refusal {
 }
 
 impl Refusal {
-    /// The refusal's number, and the number reading gave or 0. 32 was one of them and is not used again.
-    pub fn numbers(self) -> (u8, u8) {
+    /// The refusal's number, and the number and the place that reading gave, or 0 and 0. 32 is not used again.
+    pub fn numbers(self) -> (u8, u8, usize) {
         match self {
-            Refusal::NotAFile => (21, 0),
-            Refusal::NoRecord => (22, 0),
-            Refusal::StoredLength => (23, 0),
-            Refusal::NotClear => (24, 0),
-            Refusal::Record(unread) => (25, unread as u8),
-            Refusal::NotFound => (27, 0),
-            Refusal::Radio(unread) => (31, unread as u8),
-            Refusal::TooLong => (33, 0),
-            Refusal::Message(unread) => (34, unread as u8),
-            Refusal::Buffer => (35, 0),
+            Refusal::NotAFile => (21, 0, 0),
+            Refusal::NoRecord => (22, 0, 0),
+            Refusal::StoredLength => (23, 0, 0),
+            Refusal::NotClear => (24, 0, 0),
+            Refusal::Record(unread) => unread.passed_on(25),
+            Refusal::NotFound => (27, 0, 0),
+            Refusal::Radio(unread) => unread.passed_on(31),
+            Refusal::TooLong => (33, 0, 0),
+            Refusal::Message(unread) => unread.passed_on(34),
+            Refusal::Buffer => (35, 0, 0),
         }
     }
 }

@@ -1,7 +1,7 @@
 //! The shapes of the C interface that both sides of a comparison speak.
 //! The archive gives them by itself; the peer is put into them by the mirror.
 
-/// An answer word, taken apart.
+/// An answer word, taken apart. Of a refusal by reading, or of one that passes it on, the value is the place.
 #[derive(Clone, Copy, Debug, Default, PartialEq, Eq)]
 pub struct Answer {
     pub number: u8,

@@ -14,6 +14,7 @@ const LEAST: usize = 21;
 const OUR_VERSION: u8 = 4;
 
 // The places of what a rule looks at. V bytes stand from VARIABLE on, and D bytes behind them.
+const HEADER_VERSION: usize = 0;
 const FLAGS: usize = 4;
 const D: usize = 5;
 const V: usize = 16;
@@ -32,18 +33,20 @@ const CRC: u8 = 1;
 const NO_KIND: u8 = 3;
 
 /// What became of a rule. Not judged, which is not broken: its bytes are not there, or it has nothing to say of them.
+/// The place where a rule is broken counts from the first byte.
 #[derive(Clone, Copy, Debug, PartialEq, Eq)]
 pub enum Verdict {
     Kept,
-    Broken,
+    Broken { place: usize },
     NotJudged,
 }
 
-impl From<Option<bool>> for Verdict {
-    fn from(kept: Option<bool>) -> Verdict {
+impl Verdict {
+    /// The verdict on a rule that is kept or not, or not judged, and that is broken at this place if it is.
+    fn of(kept: Option<bool>, place: usize) -> Verdict {
         match kept {
             Some(true) => Verdict::Kept,
-            Some(false) => Verdict::Broken,
+            Some(false) => Verdict::Broken { place },
             None => Verdict::NotJudged,
         }
     }
@@ -52,20 +55,22 @@ impl From<Option<bool>> for Verdict {
 /// The verdicts on any bytes, in the order of the rules.
 pub fn judge(bytes: &[u8]) -> [Verdict; RULES] {
     [
-        Some(long_enough(bytes)),
-        header_version(bytes),
-        flags(bytes),
-        variable_size(bytes),
-        length(bytes),
-        addresses(bytes),
-        integrity(bytes),
+        Verdict::of(Some(long_enough(bytes)), bytes.len()),
+        Verdict::of(header_version(bytes), HEADER_VERSION),
+        Verdict::of(flags(bytes), FLAGS),
+        Verdict::of(variable_size(bytes), V),
+        Verdict::of(length(bytes), D),
+        Verdict::of(addresses(bytes), ADDRESSES),
+        field_place(bytes).map_or(Verdict::NotJudged, |place| Verdict::of(integrity(bytes, place), place)),
     ]
-    .map(Verdict::from)
 }
 
-/// The lowest number of a broken rule.
-pub fn lowest_broken(verdicts: &[Verdict; RULES]) -> Option<u8> {
-    (1..).zip(verdicts).find(|(_, verdict)| **verdict == Verdict::Broken).map(|(rule, _)| rule)
+/// The lowest number of a broken rule, and its place.
+pub fn lowest_broken(verdicts: &[Verdict; RULES]) -> Option<(u8, usize)> {
+    (1..).zip(verdicts).find_map(|(rule, verdict)| match *verdict {
+        Verdict::Broken { place } => Some((rule, place)),
+        Verdict::Kept | Verdict::NotJudged => None,
+    })
 }
 
 // Each rule tells whether it is kept, or nothing where it is not judged.
@@ -77,7 +82,7 @@ fn long_enough(bytes: &[u8]) -> bool {
 
 /// Rule 2: the header version is ours.
 fn header_version(bytes: &[u8]) -> Option<bool> {
-    Some(*bytes.first()? == OUR_VERSION)
+    Some(*bytes.get(HEADER_VERSION)? == OUR_VERSION)
 }
 
 /// Rule 3: no flag that nobody assigned, and no kind that nobody assigned.
@@ -104,9 +109,9 @@ fn addresses(bytes: &[u8]) -> Option<bool> {
     Some(source.is_some_and(is_address) && destination.is_some_and(is_address) && more.is_none())
 }
 
-/// Rule 7: the field stands where V and D put it, also where the bytes do not end with it.
-fn integrity(bytes: &[u8]) -> Option<bool> {
-    let (before, from_field) = bytes.split_at_checked(field_place(bytes)?)?;
+/// Rule 7: the field stands where V and D put it, at this place, also where the bytes do not end with it.
+fn integrity(bytes: &[u8], place: usize) -> Option<bool> {
+    let (before, from_field) = bytes.split_at_checked(place)?;
     let field = u32::from_be_bytes(*from_field.first_chunk()?);
     Some(match kind(bytes)? {
         NONE => field == 0,

@@ -11,4 +11,6 @@ pub mod flips;
 pub mod frame;
 pub mod golden;
 pub mod judge;
+#[cfg(test)]
+mod places;
 pub mod random;

@@ -6,14 +6,25 @@ use crate::interface::{ACKNOWLEDGMENT, BROKEN, DATA_MESSAGE, KEPT, NOT_JUDGED};
 use crate::interface::{AHEAD, BEHIND, FEED_INSIDE, FEED_WHOLE, IN_TIME, LATE, NEXT, NO_CLOCK, REPEAT};
 use crate::interface::{COMMIDS, FEED_NUMBERS, FEED_ROOM, FIELDS, LINE, PART, QOS_PARTS, RULES};
 use peer::crc::{Division, Sum};
-use peer::envelope::{self, Draft, Fields, Integrity, Kind, Lateness, Qos, Sequence, Service, Unread};
+use peer::envelope::{self, Draft, Fields, Integrity, Kind, Lateness, Qos, Sequence, Service};
 use peer::feed::{self, Feed, Standing, Taken};
 use peer::frame::{self, Body, Unwrapped};
 use peer::golden::{self, Refusal, Step};
 use peer::judge::{self, Verdict};
 
+/// A refusal that has no place.
 fn refused(number: u8) -> Answer {
     Answer { number, ..Answer::default() }
+}
+
+/// A refusal with its place in the message.
+fn refused_at((number, place): (u8, usize)) -> Answer {
+    Answer { number, value: place as u32, ..Answer::default() }
+}
+
+/// A refusal with the number and the place of reading, where it passes one on.
+fn passed_on((number, reading, place): (u8, u8, usize)) -> Answer {
+    Answer { number, reading, value: place as u32, ..Answer::default() }
 }
 
 fn done_with(value: usize) -> Answer {
@@ -25,8 +36,7 @@ fn counted(count: usize) -> Answer {
 }
 
 fn golden_refused(refusal: Refusal) -> Answer {
-    let (number, reading) = refusal.numbers();
-    Answer { number, reading, ..Answer::default() }
+    passed_on(refusal.numbers())
 }
 
 pub fn crc(bytes: &[u8]) -> u32 {
@@ -39,7 +49,7 @@ pub fn read(message: &[u8], fields: &mut [u64; FIELDS]) -> Answer {
             *fields = numbered(&read);
             Answer::default()
         }
-        Err(unread) => refused(unread as u8),
+        Err(unread) => refused_at(unread.numbers()),
     }
 }
 
@@ -91,7 +101,7 @@ pub fn rewrite(message: &[u8], buffer: &mut [u8]) -> Answer {
     match envelope::read::<Division>(message) {
         Ok(fields) => envelope::write::<Division>(&envelope::draft_of(&fields, message), buffer)
             .map_or_else(|unwritten| refused(unwritten as u8), done_with),
-        Err(unread) => refused(unread as u8),
+        Err(unread) => refused_at(unread.numbers()),
     }
 }
 
@@ -130,16 +140,29 @@ pub fn sequence(old: u32, new: u32) -> Answer {
 }
 
 pub fn judge(bytes: &[u8], verdicts: &mut [u8; RULES]) -> Answer {
+    judge_places(bytes, verdicts, &mut [0; RULES])
+}
+
+pub fn judge_places(bytes: &[u8], verdicts: &mut [u8; RULES], places: &mut [u64; RULES]) -> Answer {
     let judged = judge::judge(bytes);
-    *verdicts = judged.map(verdict_number);
-    Answer { reading: judge::lowest_broken(&judged).unwrap_or(0), ..Answer::default() }
+    (*verdicts, *places) = (judged.map(verdict_number), judged.map(verdict_place));
+    let (reading, place) = judge::lowest_broken(&judged).unwrap_or_default();
+    Answer { reading, ..done_with(place) }
 }
 
 pub fn verdict_number(verdict: Verdict) -> u8 {
     match verdict {
         Verdict::Kept => KEPT,
-        Verdict::Broken => BROKEN,
+        Verdict::Broken { .. } => BROKEN,
         Verdict::NotJudged => NOT_JUDGED,
+    }
+}
+
+/// The place of a broken rule, and 0 for another.
+pub fn verdict_place(verdict: Verdict) -> u64 {
+    match verdict {
+        Verdict::Broken { place } => place as u64,
+        Verdict::Kept | Verdict::NotJudged => 0,
     }
 }
 
@@ -190,36 +213,23 @@ pub fn make(message: &[u8], buffer: &mut [u8]) -> Answer {
     golden::make::<Division>(message, buffer).map_or_else(golden_refused, |()| Answer::default())
 }
 
-/// What a feed can stand refused by.
-const FEED_REFUSALS: [feed::Refusal; 9] = [
-    feed::Refusal::Unread(Unread::TooShort),
-    feed::Refusal::Unread(Unread::HeaderVersion),
-    feed::Refusal::Unread(Unread::Flags),
-    feed::Refusal::Unread(Unread::VariableSize),
-    feed::Refusal::Unread(Unread::Length),
-    feed::Refusal::Unread(Unread::Addresses),
-    feed::Refusal::Unread(Unread::Integrity),
-    feed::Refusal::TooLong,
-    feed::Refusal::Cut,
-];
-
 /// The feed that storage of any content is.
 fn stored(kept: &[u8; FEED_ROOM], numbers: &[u64; FEED_NUMBERS]) -> Feed {
     let number = numbers[feed_number::STANDING];
-    let refusal = FEED_REFUSALS.into_iter().find(|refusal| u64::from(refusal.number()) == number);
-    let standing = match (number, refusal) {
+    let count = usize::try_from(numbers[feed_number::COUNT]).unwrap_or(usize::MAX);
+    let standing = match (number, feed::Refusal::standing(number, count)) {
         (FEED_INSIDE, _) => Standing::Inside,
         (_, Some(refusal)) => Standing::Refused(refusal),
         (_, None) => Standing::Whole,
     };
-    Feed::resumed(*kept, usize::try_from(numbers[feed_number::COUNT]).unwrap_or(usize::MAX), standing)
+    Feed::resumed(*kept, count, standing)
 }
 
 fn feed_numbers(feed: &Feed) -> [u64; FEED_NUMBERS] {
     let standing = match feed.standing() {
         Standing::Inside => FEED_INSIDE,
         Standing::Whole => FEED_WHOLE,
-        Standing::Refused(refusal) => refusal.number().into(),
+        Standing::Refused(refusal) => refusal.numbers().0.into(),
     };
     [feed.count() as u64, standing]
 }
@@ -244,14 +254,14 @@ pub fn feed_take(
             *fields = numbered(&read);
             done_with(feed.count())
         }
-        Err(refusal) => refused(refusal.number()),
+        Err(refusal) => refused_at(refusal.numbers()),
     };
     Answer { count: used as u16, ..answer }
 }
 
 pub fn feed_end(numbers: &mut [u64; FEED_NUMBERS]) -> Answer {
     let mut feed = stored(&[0; FEED_ROOM], numbers);
-    let answer = feed.end().map_or_else(|refusal| refused(refusal.number()), |()| Answer::default());
+    let answer = feed.end().map_or_else(|refusal| refused_at(refusal.numbers()), |()| Answer::default());
     numbers[feed_number::STANDING] = feed_numbers(&feed)[feed_number::STANDING];
     answer
 }
@@ -267,8 +277,7 @@ pub fn feed_message(kept: &[u8; FEED_ROOM], numbers: &[u64; FEED_NUMBERS]) -> An
 }
 
 fn frame_refused(refusal: frame::Refusal) -> Answer {
-    let (number, reading) = refusal.numbers();
-    Answer { number, reading, ..Answer::default() }
+    passed_on(refusal.numbers())
 }
 
 pub fn unwrap(frame: &[u8], commids: &mut [u32; COMMIDS], fields: &mut [u64; FIELDS]) -> Answer {

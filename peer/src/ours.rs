@@ -33,6 +33,7 @@ extern "C" {
     fn morlewen_distance(old: u32, new: u32) -> i32;
     fn morlewen_sequence(old: u32, new: u32) -> u64;
     fn morlewen_judge(bytes: *const u8, length: usize, verdicts: *mut u8) -> u64;
+    fn morlewen_judge_places(bytes: *const u8, length: usize, verdicts: *mut u8, places: *mut u64) -> u64;
     fn morlewen_records(file: *const u8, length: usize) -> u64;
     fn morlewen_check(file: *const u8, length: usize) -> u64;
     fn morlewen_find(file: *const u8, length: usize, message_type: u16, number: u32) -> u64;
@@ -132,6 +133,12 @@ pub fn sequence(old: u32, new: u32) -> Answer {
 pub fn judge(bytes: &[u8], verdicts: &mut [u8; RULES]) -> Answer {
     // SAFETY: the slice is whole, and the array has a place for each rule.
     unpack(unsafe { morlewen_judge(bytes.as_ptr(), bytes.len(), verdicts.as_mut_ptr()) })
+}
+
+pub fn judge_places(bytes: &[u8], verdicts: &mut [u8; RULES], places: &mut [u64; RULES]) -> Answer {
+    let (verdicts, places) = (verdicts.as_mut_ptr(), places.as_mut_ptr());
+    // SAFETY: the slice is whole, and both arrays have a place for each rule.
+    unpack(unsafe { morlewen_judge_places(bytes.as_ptr(), bytes.len(), verdicts, places) })
 }
 
 pub fn records(file: &[u8]) -> Answer {

@@ -44,32 +44,32 @@ pub fn run_line(
     run_row(
         b"f file ?record @Ad | ?bytes @Az | ?zeros #Bz | ?change #Bp @Ac | new . =
 a sum @Am =#A $B
-b read @Am =?k0 accepted type #A version #B flags #C number #D time #E ?F0 unaddressed ?F1 ttl #G qos #H source #I #J [ &IJ ~] destination #K #L [ &KL ~] ?k0 body #M #N [ &MN ~] integrity ?O0 none ?O1 crc $P ?O2 application $P ?k2 refused #n
-g judge @Am =1 ?A0 kept ?A1 broken ?A2 not judged ? 2 ?B0 kept ?B1 broken ?B2 not judged ? 3 ?C0 kept ?C1 broken ?C2 not judged ? 4 ?D0 kept ?D1 broken ?D2 not judged ? 5 ?E0 kept ?E1 broken ?E2 not judged ? 6 ?F0 kept ?F1 broken ?F2 not judged ? 7 ?G0 kept ?G1 broken ?G2 not judged ?r0 none broken ?r1234567 lowest #r
-h unwrap @Am =?c1 data commid #A size #v ?c2 acknowledgment commid #A of #B ?k3 refused #n #r |?c1 accepted type #A version #B flags #C number #D time #E ?F0 unaddressed ?F1 ttl #G qos #H source #I #J [ &IJ ~] destination #K #L [ &KL ~] ?c1 body #M #N [ &MN ~] integrity ?O0 none ?O1 crc $P ?O2 application $P
+b read @Am =?k0 accepted type #A version #B flags #C number #D time #E ?F0 unaddressed ?F1 ttl #G qos #H source #I #J [ &IJ ~] destination #K #L [ &KL ~] ?k0 body #M #N [ &MN ~] integrity ?O0 none ?O1 crc $P ?O2 application $P ?k2 refused #n #v
+g judge @Am =1 ?A0 kept ?A1 broken at #H ?A2 not judged ? 2 ?B0 kept ?B1 broken at #I ?B2 not judged ? 3 ?C0 kept ?C1 broken at #J ?C2 not judged ? 4 ?D0 kept ?D1 broken at #K ?D2 not judged ? 5 ?E0 kept ?E1 broken at #L ?E2 not judged ? 6 ?F0 kept ?F1 broken at #M ?F2 not judged ? 7 ?G0 kept ?G1 broken at #N ?G2 not judged ?r0 none broken ?r1234567 lowest #r #v
+h unwrap @Am =?c1 data commid #A size #v ?c2 acknowledgment commid #A of #B ?k3 refused #n #r #v |?c1 accepted type #A version #B flags #C number #D time #E ?F0 unaddressed ?F1 ttl #G qos #H source #I #J [ &IJ ~] destination #K #L [ &KL ~] ?c1 body #M #N [ &MN ~] integrity ?O0 none ?O1 crc $P ?O2 application $P
 i first @Am =#A of #B
-V wrap commid #A4 room #Lr of @Bm =?k01 wrote #v ?k3 refused #n #r ? [ ! ~]
-U acknowledge commid #A4 of #B4 room #Lr =?k01 wrote #v ?k3 refused #n #r ? [ ! ~]
+V wrap commid #A4 room #Lr of @Bm =?k01 wrote #v ?k3 refused #n #r #v ? [ ! ~]
+U acknowledge commid #A4 of #B4 room #Lr =?k01 wrote #v ?k3 refused #n #r #v ? [ ! ~]
 W write type #A2 version #B1 flags #C1 number #D4 time #E4 ?unaddressed | ttl #G2 qos #H2 . source @Iw/destination destination @Jw/body body @Kw/integrity integrity #K4 room #Lr =?k01 wrote #v ?k3 refused #n ? [ ! ~]
-X rewrite room #Lr of @Am =?k01 wrote #v ?k2 unread #n ?k3 refused #n ? [ ! ~]
+X rewrite room #Lr of @Am =?k01 wrote #v ?k2 unread #n #v ?k3 refused #n ? [ ! ~]
 c qos ?join #A1 #B1 #C1 #D1 #E1 | split #A2 . =?k01 #v ?k3 refused #n ?F1 #A #B #C #D
 d late ?unaddressed | ttl #A2 . entry #B8 clock #C8 =?c0 in time ?c1 late ?c2 no clock
 e sequence from #A4 to #B4 =?c0 repeat ?c1 next ?c2 ahead #v ?c3 behind #v
-Y make room #Lr of @Am =?k0 made ?k3 refused #n #r ? [ ! ~]
-A check =?k0 records #c ?k3 record #c refused #n #r
-B find type #A2 number #B4 =?k01 record #v ?k3 refused #n #r ? opened #c
-C step at #A8 =?k0 end ?k1 message #A #B ?k3 refused #n #r ? next #C
-D walk =?k0 end ?k1 message #A #B ?k3 refused #n #r ?D1 ~,
-p compare record #A8 list +Kl/with with @Cm =?k0 same ?k1 different #v ?k3 refused #n #r ? list
-E entry at #A8 =?k0 #A #B #C ?k3 refused #n #r
-F list =?E47 #F ?E4 #A #B #C ?E37 refused #n #r ?E0 records #c ?D1 ~;
+Y make room #Lr of @Am =?k0 made ?k3 refused #n #r #v ? [ ! ~]
+A check =?k0 records #c ?k3 record #c refused #n #r #v
+B find type #A2 number #B4 =?k01 record #v ?k3 refused #n #r #v ? opened #c
+C step at #A8 =?k0 end ?k1 message #A #B ?k3 refused #n #r #v ? next #C
+D walk =?k0 end ?k1 message #A #B ?k3 refused #n #r #v ?D1 ~,
+p compare record #A8 list +Kl/with with @Cm =?k0 same ?k1 different #v ?k3 refused #n #r #v ? list
+E entry at #A8 =?k0 #A #B #C ?k3 refused #n #r #v
+F list =?E47 #F ?E4 #A #B #C ?E37 refused #n #r #v ?E0 records #c ?D1 ~;
 0 edits record #A8 =?k1 edited #A refused #B ?k03 no message
 1 flips record #A8 =?k1 flipped #A refused #B ?k03 no message
 2 pairs record #A8 =?k1 flipped #A refused #B ?k03 no message
 * restart =
-+ piece @Am =used #c ?k0 nothing ?k23 refused #n ?k1 message #v accepted type #A version #B flags #C number #D time #E ?F0 unaddressed ?F1 ttl #G qos #H source #I #J [ &IJ ~] destination #K #L [ &KL ~] ?k1 body #M #N [ &MN ~] integrity ?O0 none ?O1 crc $P ?O2 application $P
++ piece @Am =used #c ?k0 nothing ?k23 refused #n #v ?k1 message #v accepted type #A version #B flags #C number #D time #E ?F0 unaddressed ?F1 ttl #G qos #H source #I #J [ &IJ ~] destination #K #L [ &KL ~] ?k1 body #M #N [ &MN ~] integrity ?O0 none ?O1 crc $P ?O2 application $P
 , stream cut #A8 of @Bm =used #A
-- end =?k0 nothing ?k23 refused #n
+- end =?k0 nothing ?k23 refused #n #v
 ",
         line,
         number,

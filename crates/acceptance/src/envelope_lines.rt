@@ -29,7 +29,7 @@ use exports::sums::morlewen_crc;
 use exports::timing::morlewen_lateness_from_entry;
 use exports::timing::morlewen_sequence;
 use exports::verdicts::RULES;
-use exports::verdicts::morlewen_judge;
+use exports::verdicts::morlewen_judge_places;
 
 // What a lent buffer holds in every byte before a call.
 const BLANK: u8 = 0xEE;
@@ -105,20 +105,37 @@ fn read(message: &[u8], numbers: &mut [u64; 16]) -> u64 {
     morlewen_read(message, numbers)
 }
 
+// The verdicts, and behind them the places.
 fn judged(message: &[u8], numbers: &mut [u64; 16]) -> u64 {
     let mut verdicts = [0u8; RULES];
-    let word = morlewen_judge(message, &mut verdicts);
+    let mut places = [0u64; RULES];
+    let word = morlewen_judge_places(message, &mut verdicts, &mut places);
+    put_verdicts(numbers, &verdicts);
+    put_places(numbers, &places);
+    word
+}
+
+fn put_verdicts(numbers: &mut [u64; 16], verdicts: &[u8; RULES]) {
     put_four(
         numbers,
-        verdict(&verdicts, 0),
-        verdict(&verdicts, 1),
-        verdict(&verdicts, 2),
-        verdict(&verdicts, 3),
+        verdict(verdicts, 0),
+        verdict(verdicts, 1),
+        verdict(verdicts, 2),
+        verdict(verdicts, 3),
     );
-    put(numbers, 4, verdict(&verdicts, 4));
-    put(numbers, 5, verdict(&verdicts, 5));
-    put(numbers, 6, verdict(&verdicts, 6));
-    word
+    put(numbers, 4, verdict(verdicts, 4));
+    put(numbers, 5, verdict(verdicts, 5));
+    put(numbers, 6, verdict(verdicts, 6));
+}
+
+fn put_places(numbers: &mut [u64; 16], places: &[u64; RULES]) {
+    put(numbers, 7, places[0]);
+    put(numbers, 8, places[1]);
+    put(numbers, 9, places[2]);
+    put(numbers, 10, places[3]);
+    put(numbers, 11, places[4]);
+    put(numbers, 12, places[5]);
+    put(numbers, 13, places[6]);
 }
 
 fn verdict(verdicts: &[u8; RULES], place: usize) -> u64 {

@@ -34,8 +34,8 @@ pub fn feed_line(
     tell(template, word, numbers, kept);
     put_four(numbers, standing[0], standing[1], stands(standing[1]), 0);
     tell(
-        b"count #A ?C0 inside ?C1 whole ?C2 refused #B ? kept [ ! ~]",
-        0,
+        b"count #A ?C0 inside ?C1 whole ?C2 refused #B #v ? kept [ ! ~]",
+        asked_again(standing),
         numbers,
         kept,
     );
@@ -44,6 +44,14 @@ pub fn feed_line(
 // The bytes kept are the message that is told of, and they are shown whole as a lent buffer is.
 fn tell(template: &[u8], word: u64, numbers: &[u64; 16], kept: &[u8]) {
     say(template, word, numbers, kept, kept);
+}
+
+// A refusal that stands is answered again, with its place, and nothing changes.
+fn asked_again(standing: &mut [u64; NUMBERS]) -> u64 {
+    if stands(standing[1]) < 2 {
+        return 0;
+    }
+    morlewen_feed_end(standing)
 }
 
 // 0: inside. 1: whole. 2: refused.

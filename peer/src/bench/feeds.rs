@@ -37,7 +37,7 @@ fn fed_to_ours(stream: &[u8], size: usize) -> usize {
         while !piece.is_empty() {
             let answer = ours::feed_take(&mut kept, &mut numbers, piece, &mut fields);
             piece = &piece[usize::from(answer.count)..];
-            if answer.value != 0 {
+            if answer.number == 0 && answer.value != 0 {
                 black_box(&fields);
                 found += 1;
             }

@@ -75,7 +75,8 @@ pub fn comparing<'a>(file: &'a [u8], radio: &'a [u8], before: Option<Before>) ->
         let answer = ours::compare(black_box(file), 0, black_box(radio), &mut places);
         (answer, places)
     };
-    assert_ne!(compare_by_ours().0.value, 0, "the radio's message does not differ");
+    let compared = compare_by_ours().0;
+    assert!(compared.number == 0 && compared.value != 0, "the radio's message does not differ");
     let mut sides: Vec<(Side, Work)> = vec![
         (Side::Ours, repeated(compare_by_ours)),
         (

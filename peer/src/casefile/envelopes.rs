@@ -5,7 +5,7 @@ use super::complaint::Complaint;
 use super::printed::{buffer, part};
 use super::words::Words;
 use crate::crc::{Division, Sum};
-use crate::envelope::{self, Draft, Fields, Integrity, Lateness, Qos, Sequence, Service};
+use crate::envelope::{self, Draft, Fields, Integrity, Lateness, Qos, Sequence, Service, Unread};
 use crate::judge::{self, Verdict};
 
 type Answer = Result<String, Complaint>;
@@ -30,8 +30,14 @@ pub fn read(words: &mut Words) -> Answer {
     let message = bytes(words, MOST_BYTES, None)?;
     Ok(match envelope::read::<Division>(&message) {
         Ok(fields) => accepted(&fields, &message),
-        Err(unread) => format!("refused {}", unread as u8),
+        Err(unread) => refused("refused", unread),
     })
+}
+
+/// A refusal by reading: this word, its number and its place.
+fn refused(word: &str, unread: Unread) -> String {
+    let (number, place) = unread.numbers();
+    format!("{word} {number} {place}")
 }
 
 /// What `read` answers of a message that is read.
@@ -58,15 +64,15 @@ pub fn judge(words: &mut Words) -> Answer {
     let judged = judge::judge(&bytes(words, MOST_BYTES, None)?);
     let mut told = String::new();
     for (rule, verdict) in (1..).zip(judged) {
-        let word = match verdict {
-            Verdict::Kept => "kept",
-            Verdict::Broken => "broken",
-            Verdict::NotJudged => "not judged",
+        let words = match verdict {
+            Verdict::Kept => "kept".to_string(),
+            Verdict::Broken { place } => format!("broken at {place}"),
+            Verdict::NotJudged => "not judged".to_string(),
         };
-        told += &format!("{rule} {word} ");
+        told += &format!("{rule} {words} ");
     }
     let lowest = judge::lowest_broken(&judged);
-    Ok(told + &lowest.map_or("none broken".to_string(), |rule| format!("lowest {rule}")))
+    Ok(told + &lowest.map_or("none broken".to_string(), |(rule, place)| format!("lowest {rule} {place}")))
 }
 
 /// The buffer that `room N` asks for.
@@ -127,7 +133,7 @@ pub fn rewrite(words: &mut Words) -> Answer {
     let message = bytes(words, MOST_BYTES, None)?;
     let answer = match envelope::read::<Division>(&message) {
         Ok(fields) => written(&envelope::draft_of(&fields, &message), &mut lent),
-        Err(unread) => format!("unread {}", unread as u8),
+        Err(unread) => refused("unread", unread),
     };
     Ok(format!("{answer} {}", buffer(&lent)))
 }

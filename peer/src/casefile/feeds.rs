@@ -6,18 +6,23 @@ use super::envelopes::accepted;
 use super::printed::buffer;
 use super::words::Words;
 use crate::crc::Division;
-use crate::feed::{Feed, Standing, Taken};
+use crate::feed::{Feed, Refusal, Standing, Taken};
 
 type Answer = Result<String, Complaint>;
 
 const NOTHING: &str = "nothing";
+
+fn refused(refusal: Refusal) -> String {
+    let (number, place) = refusal.numbers();
+    format!("refused {number} {place}")
+}
 
 /// STATE: the count, how it stands, and the bytes kept.
 fn state(feed: &Feed) -> String {
     let standing = match feed.standing() {
         Standing::Inside => "inside".to_string(),
         Standing::Whole => "whole".to_string(),
-        Standing::Refused(refusal) => format!("refused {}", refusal.number()),
+        Standing::Refused(refusal) => refused(refusal),
     };
     format!("count {} {standing} kept {}", feed.count(), buffer(feed.kept()))
 }
@@ -34,7 +39,7 @@ pub fn piece(words: &mut Words, feed: &mut Feed) -> Answer {
     let found = match (found, feed.message()) {
         (Ok(Some(fields)), Some(message)) => format!("message {} {}", message.len(), accepted(&fields, message)),
         (Ok(_), _) => NOTHING.to_string(),
-        (Err(refusal), _) => format!("refused {}", refusal.number()),
+        (Err(refusal), _) => refused(refusal),
     };
     Ok(format!("used {used} {found} {}", state(feed)))
 }
@@ -61,6 +66,6 @@ pub fn stream(words: &mut Words, feed: &mut Feed) -> Answer {
 
 pub fn end(words: &mut Words, feed: &mut Feed) -> Answer {
     words.end()?;
-    let found = feed.end().map_or_else(|refusal| format!("refused {}", refusal.number()), |()| NOTHING.to_string());
+    let found = feed.end().map_or_else(refused, |()| NOTHING.to_string());
     Ok(format!("{found} {}", state(feed)))
 }

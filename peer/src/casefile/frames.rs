@@ -16,8 +16,8 @@ fn commid(words: &mut Words, name: &'static str) -> Result<u32, Complaint> {
 }
 
 fn refused(refusal: Refusal) -> String {
-    let (number, reading) = refusal.numbers();
-    format!("refused {number} {reading}")
+    let (number, reading, place) = refusal.numbers();
+    format!("refused {number} {reading} {place}")
 }
 
 fn written(length: Result<usize, Refusal>, lent: &[u8]) -> String {

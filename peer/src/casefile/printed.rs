@@ -21,10 +21,10 @@ pub fn buffer(buffer: &[u8]) -> String {
     format!("[{before}{space}{last:02x}*{run}]")
 }
 
-/// A refusal about a golden file, by its two numbers.
+/// A refusal about a golden file, by its three numbers.
 pub fn refused(refusal: Refusal) -> String {
-    let (number, reading) = refusal.numbers();
-    format!("refused {number} {reading}")
+    let (number, reading, place) = refusal.numbers();
+    format!("refused {number} {reading} {place}")
 }
 
 #[cfg(test)]

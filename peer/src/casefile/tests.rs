@@ -26,11 +26,11 @@ fn examples_a_to_g_are_judged_as_told() {
             "read a: 0417700100000000000000010000000000 00000000",
             &format!("read a: {ACCEPTED} unaddressed body 17 0 [] integrity none"),
         ),
-        ("read b: 0417700100000000000000010000000000 000000", "read b: refused 1"),
-        ("read c: 0317700100000000000000010000000000 00000000", "read c: refused 2"),
-        ("read d: 0417700100000000000000010000000005 00000000", "read d: refused 4"),
-        ("read e: 0417700100000000000000010000000000 00000000 00", "read e: refused 5"),
-        ("read f: 0417700100000000000000010000000000 00000001", "read f: refused 7"),
+        ("read b: 0417700100000000000000010000000000 000000", "read b: refused 1 20"),
+        ("read c: 0317700100000000000000010000000000 00000000", "read c: refused 2 0"),
+        ("read d: 0417700100000000000000010000000005 00000000", "read d: refused 4 16"),
+        ("read e: 0417700100000000000000010000000000 00000000 00", "read e: refused 5 5"),
+        ("read f: 0417700100000000000000010000000000 00000001", "read f: refused 7 17"),
         (
             "read g: 0417700100000001000000010000000000 55 00000000",
             &format!("read g: {ACCEPTED} unaddressed body 17 1 [55] integrity none"),
@@ -48,7 +48,7 @@ fn examples_h_to_j_are_judged_as_told() {
             &format!("read h: {head} 06 0078 0000 0000 00*4"),
             &format!("read h: {accepted} 21 0 [] destination 22 0 [] body 23 0 [] integrity none"),
         ),
-        (&format!("read i: {head} 07 0078 0000 414100 00*4"), "read i: refused 6"),
+        (&format!("read i: {head} 07 0078 0000 414100 00*4"), "read i: refused 6 21"),
         (
             &format!("read i, source: {head} 07 0078 0000 'A' 0000 00*4"),
             &format!("read i, source: {accepted} 21 1 [41] destination 23 0 [] body 24 0 [] integrity none"),
@@ -61,8 +61,8 @@ fn examples_h_to_j_are_judged_as_told() {
             &format!("read j: {head} 84 0078 0000 53*63 00 44*63 00 00*4"),
             &format!("read j: {accepted} 21 63 [{s}] destination 85 63 [{d}] body 149 0 [] integrity none"),
         ),
-        (&format!("read j, V 133: {head} 85 0078 0000 53*64 00 44*63 00 00*4"), "read j, V 133: refused 4"),
-        (&format!("read j, 64: {head} 84 0078 0000 53*64 00 44*62 00 00*4"), "read j, 64: refused 6"),
+        (&format!("read j, V 133: {head} 85 0078 0000 53*64 00 44*63 00 00*4"), "read j, V 133: refused 4 16"),
+        (&format!("read j, 64: {head} 84 0078 0000 53*64 00 44*62 00 00*4"), "read j, 64: refused 6 21"),
     ]);
 }
 
@@ -76,7 +76,7 @@ fn examples_k_to_o_are_answered_as_told() {
         ("file record 041770010000000000000001 00*9", "file: 512 bytes"),
         ("file record 041770010000000000000001 00*9", "file: 1024 bytes"),
         ("file change 513 14", "file: 1024 bytes"),
-        ("list o: ", "list o: records 2; 0 6000 1 21; 1 refused 23 0"),
+        ("list o: ", "list o: records 2; 0 6000 1 21; 1 refused 23 0 0"),
     ]);
 }
 
@@ -93,7 +93,7 @@ fn other_envelope_commands_answer_as_told() {
         (&format!("write stray: {fields} integrity 7 room 1"), "write stray: refused 14 [ee*1]"),
         (&format!("rewrite it: room 32 of {wrote}"), &format!("rewrite it: wrote 31 [{wrote} ee*1]")),
         (&format!("rewrite short: room 3 of {wrote}"), "rewrite short: refused 15 [ee*3]"),
-        (&format!("rewrite cut: room 3 of {}", &wrote[..60]), "rewrite cut: unread 5 [ee*3]"),
+        (&format!("rewrite cut: room 3 of {}", &wrote[..60]), "rewrite cut: unread 5 5 [ee*3]"),
         (
             &format!("read application: {}", wrote.replacen("0109", "0117", 1)),
             "read application: accepted type 6000 version 1 flags 23 number 2 time 3 ttl 4 qos 5 \
@@ -163,20 +163,20 @@ fn each_rule_is_told_with_its_verdict() {
     let rest = "2 not judged 3 not judged 4 not judged 5 not judged 6 not judged 7 not judged";
     each(&[
         (&format!("judge M: {M}"), &format!("judge M: {kept} 6 not judged 7 kept none broken")),
-        ("judge nothing:", &format!("judge nothing: 1 broken {rest} lowest 1")),
+        ("judge nothing:", &format!("judge nothing: 1 broken at 0 {rest} lowest 1 0")),
         (
             "judge six kept: 041770010000000000000001 00*4 06 00*6 00000000",
             &format!("judge six kept: {kept} 6 kept 7 kept none broken"),
         ),
         (
             "judge V 5: 041770010000000000000001 00*4 05 00*4",
-            "judge V 5: 1 kept 2 kept 3 kept 4 broken 5 broken 6 not judged 7 not judged lowest 4",
+            "judge V 5: 1 kept 2 kept 3 kept 4 broken at 16 5 broken at 5 6 not judged 7 not judged lowest 4 16",
         ),
         (
             "judge most of them: 031770012000000000000001 00*4 07 00*4 414100 00000001 00",
-            "judge most of them: 1 kept 2 broken 3 broken 4 kept 5 broken 6 broken 7 broken lowest 2",
+            "judge most of them: 1 kept 2 broken at 0 3 broken at 4 4 kept 5 broken at 5 6 broken at 21 7 broken at 24 lowest 2 0",
         ),
-        ("judge 7: 041770010000000000000001 00*8 01", &format!("judge 7: {kept} 6 not judged 7 broken lowest 7")),
+        ("judge 7: 041770010000000000000001 00*8 01", &format!("judge 7: {kept} 6 not judged 7 broken at 17 lowest 7 17")),
         ("judge", "line 7, column 6: a name and a colon expected"),
         ("judge b: 00 0", "line 8, column 13: bytes expected"),
         ("judge b: 00*300001", "line 9, column 10: at most 300000 bytes expected"),
@@ -189,29 +189,29 @@ const M: &str = "041770010000000000000001 00*9";
 fn golden_commands_answer_as_told() {
     each(&[
         ("check empty:", "check empty: records 0"),
-        ("find empty: type 6000 number 1", "find empty: refused 27 0 opened 0"),
+        ("find empty: type 6000 number 1", "find empty: refused 27 0 0 opened 0"),
         ("walk empty:", "walk empty: end"),
         ("list empty:", "list empty: records 0"),
         (&format!("file record {M}"), "file: 512 bytes"),
         ("check one:", "check one: records 1"),
         (&format!("file record {M} 00"), "file: 1024 bytes"),
         (&format!("file record {M}"), "file: 1536 bytes"),
-        ("check bad:", "check bad: record 1 refused 25 5"),
+        ("check bad:", "check bad: record 1 refused 25 5 5"),
         ("find first: type 6000 number 1", "find first: record 0 opened 1"),
-        ("find none: type 6000 number 2", "find none: refused 25 5 opened 2"),
-        ("step at one: at 1", "step at one: refused 25 5 next 2"),
+        ("find none: type 6000 number 2", "find none: refused 25 5 5 opened 2"),
+        ("step at one: at 1", "step at one: refused 25 5 5 next 2"),
         ("step at two: at 2", "step at two: message 1026 21 next 3"),
         ("step past: at 18446744073709551615", "step past: end next 18446744073709551615"),
-        ("walk it:", "walk it: message 2 21, refused 25 5, message 1026 21, end"),
+        ("walk it:", "walk it: message 2 21, refused 25 5 5, message 1026 21, end"),
         ("entry 2: at 2", "entry 2: 6000 1 21"),
-        ("entry 3: at 3", "entry 3: refused 22 0"),
-        ("list it:", "list it: records 3; 0 6000 1 21; 1 refused 25 5; 2 6000 1 21"),
+        ("entry 3: at 3", "entry 3: refused 22 0 0"),
+        ("list it:", "list it: records 3; 0 6000 1 21; 1 refused 25 5 5; 2 6000 1 21"),
         ("file bytes 00", "file: 1537 bytes"),
-        ("check odd:", "check odd: record 0 refused 21 0"),
-        ("find odd: type 6000 number 1", "find odd: refused 21 0 opened 0"),
-        ("step odd: at 7", "step odd: refused 21 0 next 7"),
-        ("walk odd:", "walk odd: refused 21 0"),
-        ("list odd:", "list odd: refused 21 0"),
+        ("check odd:", "check odd: record 0 refused 21 0 0"),
+        ("find odd: type 6000 number 1", "find odd: refused 21 0 0 opened 0"),
+        ("step odd: at 7", "step odd: refused 21 0 0 next 7"),
+        ("walk odd:", "walk odd: refused 21 0 0"),
+        ("list odd:", "list odd: refused 21 0 0"),
         ("flips odd: record 0", "flips odd: no message"),
     ]);
 }
@@ -226,12 +226,44 @@ fn comparisons_and_new_records_answer_as_told() {
         (&format!("compare none: record 0 list with {M}"), "compare none: same list"),
         (&format!("compare long: record 0 list 9*4 with {radio}"), "compare long: different 3 list 7 17 21 9"),
         (&format!("compare short: record 0 list 9*2 with {radio}"), "compare short: different 3 list 7 17"),
-        (&format!("compare none there: record 1 list 9 with {radio}"), "compare none there: refused 22 0 list 9"),
-        ("compare unread: record 0 list 9 with 00*21", "compare unread: refused 31 2 list 9"),
+        (&format!("compare none there: record 1 list 9 with {radio}"), "compare none there: refused 22 0 0 list 9"),
+        ("compare unread: record 0 list 9 with 00*21", "compare unread: refused 31 2 0 list 9"),
         (&format!("make it: room 512 of {M}"), &format!("make it: made [{stored}]")),
-        (&format!("make short: room 511 of {M}"), "make short: refused 35 0 [ee*511]"),
-        ("make none: room 512 of", "make none: refused 34 1 [ee*512]"),
-        ("make long: room 0 of 00*511", "make long: refused 33 0 []"),
+        (&format!("make short: room 511 of {M}"), "make short: refused 35 0 0 [ee*511]"),
+        ("make none: room 512 of", "make none: refused 34 1 0 [ee*512]"),
+        ("make long: room 0 of 00*511", "make long: refused 33 0 0 []"),
+    ]);
+}
+
+/// M with a field of 1: 7, at the first byte of the field. A message of 20 bytes: 1, and how many there are.
+const SPOILED: &str = "041770010000000000000001 00*8 01";
+const CUT: &str = "041770010000000000000001 00*8";
+
+#[test]
+fn whoever_passes_a_refusal_of_reading_on_tells_its_place() {
+    let stored = format!("kept [{}01 00*489]", "041770010000000000000001".to_string() + &"00".repeat(8));
+    each(&[
+        (&format!("read it: {SPOILED}"), "read it: refused 7 17"),
+        (&format!("rewrite it: room 3 of {SPOILED}"), "rewrite it: unread 7 17 [ee*3]"),
+        (&format!("rewrite cut: room 0 of {CUT}"), "rewrite cut: unread 1 20 []"),
+        (&format!("make it: room 2 of {SPOILED}"), "make it: refused 34 7 17 [ee*2]"),
+        (&format!("unwrap it: 0202 00000007 0102 00000015 {SPOILED} 03"), "unwrap it: refused 67 7 17"),
+        (&format!("unwrap cut: 0202 00000007 0102 00000014 {CUT} 03"), "unwrap cut: refused 67 1 20"),
+        (&format!("wrap it: commid 7 room 1 of {SPOILED}"), "wrap it: refused 67 7 17 [ee*1]"),
+        (&format!("file record {M}"), "file: 512 bytes"),
+        (&format!("compare it: record 0 list 9 with {SPOILED}"), "compare it: refused 31 7 17 list 9"),
+        (&format!("file record {SPOILED}"), "file: 1024 bytes"),
+        ("check it:", "check it: record 1 refused 25 7 17"),
+        ("find it: type 6000 number 2", "find it: refused 25 7 17 opened 2"),
+        ("step it: at 1", "step it: refused 25 7 17 next 2"),
+        ("walk it:", "walk it: message 2 21, refused 25 7 17, end"),
+        ("compare record: record 1 list with 04", "compare record: refused 25 7 17 list"),
+        ("entry it: at 1", "entry it: refused 25 7 17"),
+        ("list it:", "list it: records 2; 0 6000 1 21; 1 refused 25 7 17"),
+        (&format!("piece it: {SPOILED} 04"), &format!("piece it: used 21 refused 7 17 count 21 refused 7 17 {stored}")),
+        ("piece again: 04", &format!("piece again: used 0 refused 7 17 count 21 refused 7 17 {stored}")),
+        ("end it:", &format!("end it: refused 7 17 count 21 refused 7 17 {stored}")),
+        ("stream it: cut 0 of 04", &format!("stream it: used 0 count 21 refused 7 17 {stored}")),
     ]);
 }
 
@@ -245,19 +277,19 @@ fn frame_commands_answer_as_told() {
             &format!("unwrap M: data commid 7 size 21 {ACCEPTED} unaddressed body 17 0 [] integrity none"),
         ),
         ("unwrap it: 0202ffffffff0202 00000004 00000007 03", "unwrap it: acknowledgment commid 4294967295 of 7"),
-        ("unwrap nothing:", "unwrap nothing: refused 61 0"),
-        ("unwrap 66: 0202 00000009 0202 00000004 00000007 02", "unwrap 66: refused 66 0"),
-        ("unwrap no body: 0202 00000007 0102 00000000 03", "unwrap no body: refused 67 1"),
+        ("unwrap nothing:", "unwrap nothing: refused 61 0 0"),
+        ("unwrap 66: 0202 00000009 0202 00000004 00000007 02", "unwrap 66: refused 66 0 0"),
+        ("unwrap no body: 0202 00000007 0102 00000000 03", "unwrap no body: refused 67 1 0"),
         (&format!("wrap M: commid 7 room 36 of {M}"), &format!("wrap M: wrote 34 [{wrote}0003 ee*2]")),
         (&format!("wrap M, just: commid 7 room 34 of {M}"), &format!("wrap M, just: wrote 34 [{wrote}00 03*1]")),
-        (&format!("wrap short: commid 7 room 33 of {M}"), "wrap short: refused 68 0 [ee*33]"),
-        ("wrap 67 before 68: commid 7 room 0 of 05 00*20", "wrap 67 before 68: refused 67 2 []"),
-        ("wrap nothing: commid 0 room 3 of", "wrap nothing: refused 67 1 [ee*3]"),
+        (&format!("wrap short: commid 7 room 33 of {M}"), "wrap short: refused 68 0 0 [ee*33]"),
+        ("wrap 67 before 68: commid 7 room 0 of 05 00*20", "wrap 67 before 68: refused 67 2 0 []"),
+        ("wrap nothing: commid 0 room 3 of", "wrap nothing: refused 67 1 0 [ee*3]"),
         (
             "acknowledge it: commid 4294967295 of 16909060 room 18",
             "acknowledge it: wrote 17 [0202ffffffff0202000000040102030403 ee*1]",
         ),
-        ("acknowledge short: commid 0 of 0 room 16", "acknowledge short: refused 68 0 [ee*16]"),
+        ("acknowledge short: commid 0 of 0 room 16", "acknowledge short: refused 68 0 0 [ee*16]"),
         ("first nothing:", "first nothing: 0 of 0"),
         (&format!("first of two: {frame} {frame}"), "first of two: 34 of 68"),
         ("first cut: 0202 00000007 0102 00000015 04", "first cut: 13 of 13"),
@@ -307,10 +339,10 @@ fn a_feed_goes_from_line_to_line() {
         ("piece of nothing:", &format!("piece of nothing: used 0 nothing count 21 whole {M_KEPT}")),
         ("end between:", &format!("end between: nothing count 21 whole {M_KEPT}")),
         ("piece begun: 04", &format!("piece begun: used 1 nothing count 1 inside {M_KEPT}")),
-        ("end inside:", &format!("end inside: refused 52 count 1 refused 52 {M_KEPT}")),
-        ("end again:", &format!("end again: refused 52 count 1 refused 52 {M_KEPT}")),
-        ("piece refused: 04", &format!("piece refused: used 0 refused 52 count 1 refused 52 {M_KEPT}")),
-        ("stream refused: cut 0 of 04", &format!("stream refused: used 0 count 1 refused 52 {M_KEPT}")),
+        ("end inside:", &format!("end inside: refused 52 0 count 1 refused 52 0 {M_KEPT}")),
+        ("end again:", &format!("end again: refused 52 0 count 1 refused 52 0 {M_KEPT}")),
+        ("piece refused: 04", &format!("piece refused: used 0 refused 52 0 count 1 refused 52 0 {M_KEPT}")),
+        ("stream refused: cut 0 of 04", &format!("stream refused: used 0 count 1 refused 52 0 {M_KEPT}")),
         ("restart it:", &format!("restart it: {NEW}")),
         (&format!("piece both: {M} {M}"), &format!("piece both: used 21 {found} count 21 whole {M_KEPT}")),
     ]);
@@ -331,12 +363,12 @@ fn a_stream_tells_each_message_and_stops_at_a_refusal() {
         ("restart r:", &format!("restart r: {NEW}")),
         (
             &format!("stream bad: cut 5 of {M} 03 00*15 ff 00*4 {M}"),
-            &format!("stream bad: {first} 38 count 17 refused 2 kept [03{}ff 00*493]", "00".repeat(15)),
+            &format!("stream bad: {first} 38 count 17 refused 2 0 kept [03{}ff 00*493]", "00".repeat(15)),
         ),
         ("restart r:", &format!("restart r: {NEW}")),
         (
             "stream 7: cut 0 of 041770010000000000000001 00*5 00000001 04",
-            "stream 7: used 21 count 21 refused 7 kept [041770010000000000000001000000000000000001 00*489]",
+            "stream 7: used 21 count 21 refused 7 17 kept [041770010000000000000001000000000000000001 00*489]",
         ),
     ]);
 }
@@ -357,7 +389,7 @@ fn feed_lines_that_are_not_understood_change_nothing() {
         ("stream s: cut 1 of 00 of", "line 11, column 23: bytes expected"),
         ("stream s: cut 1 of 00*300000 17", "line 12, column 30: at most 300000 bytes expected"),
         ("Piece p: 17", "line 13, column 1: a command expected"),
-        ("end e:", "end e: refused 52 count 1 refused 52 kept [04 00*509]"),
+        ("end e:", "end e: refused 52 0 count 1 refused 52 0 kept [04 00*509]"),
     ]);
 }
 
@@ -445,7 +477,7 @@ fn bytes_lists_and_the_file_have_their_limits() {
         ("file record x", "line 16, column 13: bytes expected"),
         ("file change 66561", "line 17, column 13: a number from 0 to 66560 expected"),
         ("file change 66559 00 00", "line 18, column 22: at most 1 bytes expected"),
-        ("check too long:", "check too long: record 0 refused 21 0"),
+        ("check too long:", "check too long: record 0 refused 21 0 0"),
         ("file new", "file: 0 bytes"),
     ]);
 }

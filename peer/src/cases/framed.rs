@@ -11,8 +11,8 @@ pub enum Told {
     Data(u32),
     /// An acknowledgment: its own COMMID, and the one that it acknowledges.
     Acknowledgment(u32, u32),
-    /// The refusal's number, and that of reading or 0.
-    Refused(u8, u8),
+    /// The refusal's number, and the number and the place of reading, or 0 and 0.
+    Refused(u8, u8, usize),
 }
 
 pub struct Framed {
@@ -66,88 +66,88 @@ const GOOD: [Row; 10] = [
 
 /// Each refusal with no other rule broken, those of a message apart.
 const ALONE: [Row; 12] = [
-    ("12 bytes", "02 02 00000007 01 02 00000000", Refused(61, 0)),
-    ("STX 03", "03 02 00000009 02 02 00000004 00000007 03", Refused(62, 0)),
-    ("protocol version 1", "02 01 00000009 02 02 00000004 00000007 03", Refused(63, 0)),
-    ("protocol version 3", "02 03 00000009 02 02 00000004 00000007 03", Refused(63, 0)),
-    ("message version 1", "02 02 00000009 02 01 00000004 00000007 03", Refused(63, 0)),
-    ("message version 3", "02 02 00000009 02 03 00000004 00000007 03", Refused(63, 0)),
-    ("type 0", "02 02 00000009 00 02 00000004 00000007 03", Refused(64, 0)),
-    ("a negative acknowledgment", "02 02 00000009 03 02 00000006 00000007 0001 03", Refused(64, 0)),
-    ("length 3 of 4", "02 02 00000009 02 02 00000003 00000007 03", Refused(65, 0)),
-    ("acknowledgment of 3 bytes", "02 02 00000009 02 02 00000003 000007 03", Refused(65, 0)),
-    ("acknowledgment of 5 bytes", "02 02 00000009 02 02 00000005 0000000700 03", Refused(65, 0)),
-    ("ETX 02", "02 02 00000009 02 02 00000004 00000007 02", Refused(66, 0)),
+    ("12 bytes", "02 02 00000007 01 02 00000000", Refused(61, 0, 0)),
+    ("STX 03", "03 02 00000009 02 02 00000004 00000007 03", Refused(62, 0, 0)),
+    ("protocol version 1", "02 01 00000009 02 02 00000004 00000007 03", Refused(63, 0, 0)),
+    ("protocol version 3", "02 03 00000009 02 02 00000004 00000007 03", Refused(63, 0, 0)),
+    ("message version 1", "02 02 00000009 02 01 00000004 00000007 03", Refused(63, 0, 0)),
+    ("message version 3", "02 02 00000009 02 03 00000004 00000007 03", Refused(63, 0, 0)),
+    ("type 0", "02 02 00000009 00 02 00000004 00000007 03", Refused(64, 0, 0)),
+    ("a negative acknowledgment", "02 02 00000009 03 02 00000006 00000007 0001 03", Refused(64, 0, 0)),
+    ("length 3 of 4", "02 02 00000009 02 02 00000003 00000007 03", Refused(65, 0, 0)),
+    ("acknowledgment of 3 bytes", "02 02 00000009 02 02 00000003 000007 03", Refused(65, 0, 0)),
+    ("acknowledgment of 5 bytes", "02 02 00000009 02 02 00000005 0000000700 03", Refused(65, 0, 0)),
+    ("ETX 02", "02 02 00000009 02 02 00000004 00000007 02", Refused(66, 0, 0)),
 ];
 
 /// Good frames around messages that reading refuses, by each of its numbers.
 const UNREAD: [Row; 8] = [
-    ("an empty body", "02 02 00000007 01 02 00000000 03", Refused(67, 1)),
+    ("an empty body", "02 02 00000007 01 02 00000000 03", Refused(67, 1, 0)),
     (
         "M without its last byte",
         "02 02 00000007 01 02 00000014 04 1770 01 00 000000 00000001 00000000 00 000000 03",
-        Refused(67, 1),
+        Refused(67, 1, 20),
     ),
     (
         "header version 3",
         "02 02 00000007 01 02 00000015 03 1770 01 00 000000 00000001 00000000 00 00000000 03",
-        Refused(67, 2),
+        Refused(67, 2, 0),
     ),
     (
         "an unassigned flag",
         "02 02 00000007 01 02 00000015 04 1770 01 20 000000 00000001 00000000 00 00000000 03",
-        Refused(67, 3),
+        Refused(67, 3, 4),
     ),
-    ("V 5", "02 02 00000007 01 02 00000015 04 1770 01 00 000000 00000001 00000000 05 00000000 03", Refused(67, 4)),
+    ("V 5", "02 02 00000007 01 02 00000015 04 1770 01 00 000000 00000001 00000000 05 00000000 03", Refused(67, 4, 16)),
     (
         "M and a byte",
         "02 02 00000007 01 02 00000016 04 1770 01 00 000000 00000001 00000000 00 00000000 00 03",
-        Refused(67, 5),
+        Refused(67, 5, 5),
     ),
     (
         "no second zero",
         "02 02 00000007 01 02 0000001c 04 1770 01 00 000000 00000001 00000000 07 0078 0000 414100 00000000 03",
-        Refused(67, 6),
+        Refused(67, 6, 21),
     ),
     (
         "a field of 1",
         "02 02 00000007 01 02 00000015 04 1770 01 00 000000 00000001 00000000 00 00000001 03",
-        Refused(67, 7),
+        Refused(67, 7, 17),
     ),
 ];
 
 /// How many bytes there are, and how many the data length states.
 const EDGES: [Row; 11] = [
-    ("no bytes", "", Refused(61, 0)),
-    ("STX alone", "02", Refused(61, 0)),
-    ("13 bytes, an acknowledgment", "02 02 00000009 02 02 00000000 03", Refused(65, 0)),
-    ("the acknowledgment, cut", "02 02 00000009 02 02 00000004 00000007", Refused(65, 0)),
-    ("a byte behind ETX", "02 02 00000009 02 02 00000004 00000007 03 00", Refused(65, 0)),
-    ("a second ETX", "02 02 00000009 02 02 00000004 00000007 03 03", Refused(65, 0)),
+    ("no bytes", "", Refused(61, 0, 0)),
+    ("STX alone", "02", Refused(61, 0, 0)),
+    ("13 bytes, an acknowledgment", "02 02 00000009 02 02 00000000 03", Refused(65, 0, 0)),
+    ("the acknowledgment, cut", "02 02 00000009 02 02 00000004 00000007", Refused(65, 0, 0)),
+    ("a byte behind ETX", "02 02 00000009 02 02 00000004 00000007 03 00", Refused(65, 0, 0)),
+    ("a second ETX", "02 02 00000009 02 02 00000004 00000007 03 03", Refused(65, 0, 0)),
     (
         "M and a byte behind ETX",
         "02 02 00000007 01 02 00000015 04 1770 01 00 000000 00000001 00000000 00 00000000 03 03",
-        Refused(65, 0),
+        Refused(65, 0, 0),
     ),
-    ("length 4, lowest byte first", "02 02 00000009 02 02 04000000 00000007 03", Refused(65, 0)),
-    ("length 4294967295", "02 02 00000009 02 02 ffffffff 00000007 03", Refused(65, 0)),
-    ("length 4294967295, no body", "02 02 00000007 01 02 ffffffff 03", Refused(65, 0)),
-    ("length 4294967283, 13 more than that is 0", "02 02 00000007 01 02 fffffff3 03", Refused(65, 0)),
+    ("length 4, lowest byte first", "02 02 00000009 02 02 04000000 00000007 03", Refused(65, 0, 0)),
+    ("length 4294967295", "02 02 00000009 02 02 ffffffff 00000007 03", Refused(65, 0, 0)),
+    ("length 4294967295, no body", "02 02 00000007 01 02 ffffffff 03", Refused(65, 0, 0)),
+    ("length 4294967283, 13 more than that is 0", "02 02 00000007 01 02 fffffff3 03", Refused(65, 0, 0)),
 ];
 
 /// Two rules broken at once: the first of them is told.
 const IN_ORDER: [Row; 13] = [
-    ("61 before 62", "03 02 00000007 01 02 00000000", Refused(61, 0)),
-    ("61 before 63", "02 01 00000007 01 01", Refused(61, 0)),
-    ("62 before 63", "00 01 00000009 02 02 00000004 00000007 03", Refused(62, 0)),
-    ("62 before 66", "03 02 00000009 02 02 00000004 00000007 02", Refused(62, 0)),
-    ("63 before 64, protocol", "02 01 00000009 04 02 00000004 00000007 03", Refused(63, 0)),
-    ("63 before 64, message", "02 02 00000009 04 01 00000004 00000007 03", Refused(63, 0)),
-    ("63 before 65", "02 02 00000009 02 03 00000005 00000007 03", Refused(63, 0)),
-    ("64 before 65", "02 02 00000009 04 02 00000005 00000007 03", Refused(64, 0)),
-    ("64 before 66", "02 02 00000009 04 02 00000004 00000007 00", Refused(64, 0)),
-    ("65 before 66", "02 02 00000009 02 02 00000005 00000007 00", Refused(65, 0)),
-    ("65 before 66, 5 bytes acknowledged", "02 02 00000009 02 02 00000005 0000000700 00", Refused(65, 0)),
-    ("65 before 67", "02 02 00000007 01 02 00000001 03", Refused(65, 0)),
-    ("66 before 67", "02 02 00000007 01 02 00000000 02", Refused(66, 0)),
+    ("61 before 62", "03 02 00000007 01 02 00000000", Refused(61, 0, 0)),
+    ("61 before 63", "02 01 00000007 01 01", Refused(61, 0, 0)),
+    ("62 before 63", "00 01 00000009 02 02 00000004 00000007 03", Refused(62, 0, 0)),
+    ("62 before 66", "03 02 00000009 02 02 00000004 00000007 02", Refused(62, 0, 0)),
+    ("63 before 64, protocol", "02 01 00000009 04 02 00000004 00000007 03", Refused(63, 0, 0)),
+    ("63 before 64, message", "02 02 00000009 04 01 00000004 00000007 03", Refused(63, 0, 0)),
+    ("63 before 65", "02 02 00000009 02 03 00000005 00000007 03", Refused(63, 0, 0)),
+    ("64 before 65", "02 02 00000009 04 02 00000005 00000007 03", Refused(64, 0, 0)),
+    ("64 before 66", "02 02 00000009 04 02 00000004 00000007 00", Refused(64, 0, 0)),
+    ("65 before 66", "02 02 00000009 02 02 00000005 00000007 00", Refused(65, 0, 0)),
+    ("65 before 66, 5 bytes acknowledged", "02 02 00000009 02 02 00000005 0000000700 00", Refused(65, 0, 0)),
+    ("65 before 67", "02 02 00000007 01 02 00000001 03", Refused(65, 0, 0)),
+    ("66 before 67", "02 02 00000007 01 02 00000000 02", Refused(66, 0, 0)),
 ];

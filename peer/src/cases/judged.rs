@@ -11,13 +11,16 @@ pub struct Judged {
 }
 
 impl Judged {
-    /// The verdicts in letters, one a rule: k kept, B broken, - not judged.
-    fn new(name: &'static str, bytes: Vec<u8>, letters: &str) -> Judged {
+    /// The verdicts in letters, one a rule: k kept, B broken, - not judged. Behind them the place of the integrity field,
+    /// where rule 7 is broken; the other places are those of the rules, and of rule 1 how many bytes there are.
+    fn new(name: &'static str, bytes: Vec<u8>, told: &str) -> Judged {
+        let (letters, field) = told.split_at(RULES);
+        let places = [bytes.len(), 0, 4, 16, 5, 21, field.parse().unwrap_or_default()];
         let mut verdicts = [Verdict::NotJudged; RULES];
-        for (verdict, letter) in verdicts.iter_mut().zip(letters.chars()) {
+        for ((verdict, letter), place) in verdicts.iter_mut().zip(letters.chars()).zip(places) {
             *verdict = match letter {
                 'k' => Verdict::Kept,
-                'B' => Verdict::Broken,
+                'B' => Verdict::Broken { place },
                 _ => Verdict::NotJudged,
             };
         }
@@ -36,11 +39,9 @@ pub fn all() -> Vec<Judged> {
 
 /// The lettered cases, in their order.
 fn lettered() -> Vec<Judged> {
-    let letters = [
-        "kkkkk-k", "BkkkB--", "kBkkk-k", "kkkBB--", "kkkkB-k", "kkkkk-B", "kkkkk-k", "kkkkkkk", "kkkkkBk", "kkkkkkk",
-        "kkkkkkk", "kkkkkkk", "kkkBk-k", "kkkkkBk",
-    ];
-    messages().into_iter().zip(letters).map(|(case, letters)| Judged::new(case.name, case.message, letters)).collect()
+    let told = "kkkkk-k BkkkB-- kBkkk-k kkkBB-- kkkkB-k kkkkk-B17 kkkkk-k kkkkkkk kkkkkBk kkkkkkk \
+                kkkkkkk kkkkkkk kkkBk-k kkkkkBk";
+    messages().into_iter().zip(told.split(' ')).map(|(case, told)| Judged::new(case.name, case.message, told)).collect()
 }
 
 /// The message with two addresses of 63 letters: cut where its addresses and its field end, and with another V.
@@ -77,7 +78,7 @@ const CUT: [Row; 12] = [
 const VARIABLE: [Row; 9] = [
     ("V 1", "04 1770 01 00 000000 00000001 00000000 01 00 00000000", "kkkBk-k"),
     ("V 5", "04 1770 01 00 000000 00000001 00000000 05 0078 0000 00 00000000", "kkkBk-k"),
-    ("V 5, a field of 1", "04 1770 01 00 000000 00000001 00000000 05 0078 0000 00 00000001", "kkkBk-B"),
+    ("V 5, a field of 1", "04 1770 01 00 000000 00000001 00000000 05 0078 0000 00 00000001", "kkkBk-B22"),
     ("V 6, no address byte", "04 1770 01 00 000000 00000001 00000000 06 0078 0000", "kkkkB--"),
     ("V 6, an address byte", "04 1770 01 00 000000 00000001 00000000 06 0078 0000 00", "kkkkB--"),
     ("V 6, no field", "04 1770 01 00 000000 00000001 00000000 06 0078 0000 00 00", "kkkkBk-"),
@@ -88,7 +89,7 @@ const VARIABLE: [Row; 9] = [
 
 /// D, and bytes too many or too few: the field is looked for where V and D put it.
 const LENGTH: [Row; 8] = [
-    ("a body byte, D 0", "04 1770 01 00 000000 00000001 00000000 00 41 00000000", "kkkkB-B"),
+    ("a body byte, D 0", "04 1770 01 00 000000 00000001 00000000 00 41 00000000", "kkkkB-B17"),
     ("no body byte, D 1", "04 1770 01 00 000001 00000001 00000000 00 00000000", "kkkkB--"),
     ("D 1 and a byte behind the field", "04 1770 01 00 000001 00000001 00000000 00 41 00000000 01", "kkkkB-k"),
     ("D 65536", "04 1770 01 00 010000 00000001 00000000 00 00000000", "kkkkB--"),
@@ -101,27 +102,27 @@ const LENGTH: [Row; 8] = [
 /// The kind is that of its two bits, whatever the other flags are.
 const INTEGRITY: [Row; 14] = [
     ("a CRC", "04 1770 01 08 000002 00000001 00000000 00 0000 d9299f95", "kkkkk-k"),
-    ("a wrong CRC", "04 1770 01 08 000002 00000001 00000000 00 0000 d9299f94", "kkkkk-B"),
-    ("a CRC, lowest byte first", "04 1770 01 08 000002 00000001 00000000 00 0000 959f29d9", "kkkkk-B"),
-    ("a CRC of the body only", "04 1770 01 08 000004 00000001 00000000 00 626f6479 dba80bb2", "kkkkk-B"),
+    ("a wrong CRC", "04 1770 01 08 000002 00000001 00000000 00 0000 d9299f94", "kkkkk-B19"),
+    ("a CRC, lowest byte first", "04 1770 01 08 000002 00000001 00000000 00 0000 959f29d9", "kkkkk-B19"),
+    ("a CRC of the body only", "04 1770 01 08 000004 00000001 00000000 00 626f6479 dba80bb2", "kkkkk-B21"),
     ("a CRC behind addresses", "04 1770 01 08 000000 00000001 00000000 06 0078 0000 00 00 cb0e7f8b", "kkkkkkk"),
     ("a CRC behind V 5", "04 1770 01 08 000000 00000001 00000000 05 0078 0000 00 e6320538", "kkkBk-k"),
-    ("kind none beside a number", "04 1770 01 00 000000 00000001 00000000 00 80000000", "kkkkk-B"),
+    ("kind none beside a number", "04 1770 01 00 000000 00000001 00000000 00 80000000", "kkkkk-B17"),
     ("an application's number", "04 1770 01 10 000000 00000001 00000000 00 ffffffff", "kkkkk-k"),
     ("kind 3, any number", "04 1770 01 18 000000 00000001 00000000 00 12345678", "kkBkk-k"),
     ("bit 5, kind none", "04 1770 01 20 000000 00000001 00000000 00 00000000", "kkBkk-k"),
-    ("bit 6, kind none, a field of 1", "04 1770 01 40 000000 00000001 00000000 00 00000001", "kkBkk-B"),
+    ("bit 6, kind none, a field of 1", "04 1770 01 40 000000 00000001 00000000 00 00000001", "kkBkk-B17"),
     ("bit 5 beside a right CRC", "04 1770 01 28 000000 00000001 00000000 00 184b607e", "kkBkk-k"),
-    ("bit 5 beside a wrong CRC", "04 1770 01 28 000000 00000001 00000000 00 ab352b8b", "kkBkk-B"),
+    ("bit 5 beside a wrong CRC", "04 1770 01 28 000000 00000001 00000000 00 ab352b8b", "kkBkk-B17"),
     ("bit 7, an application's number", "04 1770 01 90 000000 00000001 00000000 00 12345678", "kkBkk-k"),
 ];
 
 /// Several at once, each found by itself.
 const SEVERAL: [Row; 6] = [
-    ("2, 3, 4, 5 and 7", "03 1770 01 20 000000 00000001 00000000 01 55 00000001 00", "kBBBB-B"),
-    ("2, 3, 5, 6 and 7", "03 1770 01 20 000000 00000001 00000000 07 0078 0000 414100 00000001 00", "kBBkBBB"),
+    ("2, 3, 4, 5 and 7", "03 1770 01 20 000000 00000001 00000000 01 55 00000001 00", "kBBBB-B18"),
+    ("2, 3, 5, 6 and 7", "03 1770 01 20 000000 00000001 00000000 07 0078 0000 414100 00000001 00", "kBBkBBB24"),
     ("2 and 6", "05 1770 01 00 000000 00000001 00000000 07 0078 0000 414100 00000000", "kBkkkBk"),
     ("5 and 6, no field", "04 1770 01 00 000009 00000001 00000000 07 0078 0000 414100 00000000", "kkkkBB-"),
-    ("6 and 7", "04 1770 01 00 000000 00000001 00000000 07 0078 0000 414100 00000001", "kkkkkBB"),
+    ("6 and 7", "04 1770 01 00 000000 00000001 00000000 07 0078 0000 414100 00000001", "kkkkkBB24"),
     ("1 to 5", "ffffffff ffffffff ffffffff ffffffff ff", "BBBBB--"),
 ];

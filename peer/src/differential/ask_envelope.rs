@@ -5,7 +5,7 @@ use super::ask_golden::find;
 use super::lent::{array, hex};
 use super::run::Run;
 use super::tally::{Operation, Outcome};
-use super::{ask_frame, ask_judge, inputs};
+use super::{ask_frame, ask_judge, inputs, places};
 use crate::interface::{field, Answer, Order, Timing, FIELDS, QOS_PARTS};
 use crate::interface::{IN_TIME, LATE};
 use crate::{mirror, ours};
@@ -41,13 +41,16 @@ pub fn message(run: &mut Run, message: &[u8]) -> Answer {
 }
 
 pub fn read(run: &mut Run, message: &[u8]) -> (Answer, [u64; FIELDS]) {
+    let shown = || format!("message {}", hex(message));
     let (answer, fields) = run.beside(
         Operation::Read,
         FIELDS,
         |fields| ours::read(message, array(fields)),
         |fields| mirror::read(message, array(fields)),
-        &|| format!("message {}", hex(message)),
+        &shown,
     );
+    let place = places::of(answer.number, message.len());
+    run.holds("a refusal of reading has the place of its number", answer.value as usize == place, &shown);
     (answer, fields.content().try_into().expect("sixteen fields were lent"))
 }
 
@@ -68,6 +71,7 @@ fn rewritten(run: &mut Run, message: &[u8], reading: Answer) {
         if answer.number == 0 {
             run.holds("read and rewritten is the same bytes", buffer.content().starts_with(message), &shown);
         }
+        run.holds("rewriting refuses as reading does", reading.number == 0 || answer == reading, &shown);
     }
 }
 
@@ -84,6 +88,8 @@ fn made(run: &mut Run, message: &[u8], reading: Answer) {
             |buffer| mirror::make(message, buffer),
             &shown,
         );
+        let passed_on = answer.number != 34 || (answer.reading, answer.value) == (reading.number, reading.value);
+        run.holds("34 passes on what reading answers", passed_on, &shown);
         let expected = message.len() <= LONGEST_MESSAGE && reading.number == 0 && room == RECORD;
         run.holds("a record is made of each good message that it can hold", (answer.number == 0) == expected, &shown);
         if answer.number == 0 {

@@ -2,6 +2,7 @@
 //! Each side has the feed in storage of its own, all of which is compared after each call.
 
 use super::lent::{array, hex, Lent};
+use super::places;
 use super::run::{Run, Shown};
 use super::tally::{Operation, Outcome};
 use crate::interface::{feed_number, Answer, FEED_NUMBERS, FEED_ROOM, FEED_WHOLE, FIELDS};
@@ -74,14 +75,22 @@ impl Feeds {
         if (answer.number, answer.value) == (0, 0) {
             run.holds("where nothing is found no field is written", fields == Lent::new(FIELDS), &shown);
         }
+        self.placed(run, answer, &shown);
         let found = self.message(run, &shown);
-        if answer.value != 0 {
+        if answer.number == 0 && answer.value != 0 {
             let mut read = [0; FIELDS];
             let reading = found.as_deref().map(|message| ours::read(message, &mut read));
             let same = reading == Some(Answer::default()) && fields.content() == read;
             run.holds("what is found is a message, with the fields that reading gives", same, &shown);
         }
         answer
+    }
+
+    /// A refusal has the place of its number and of how many bytes are in, whether it is new or stands.
+    fn placed(&self, run: &Run, answer: Answer, shown: Shown) {
+        let count = self.ours.numbers.content()[feed_number::COUNT].min(FEED_ROOM as u64) as usize;
+        let placed = answer.number == 0 || answer.value as usize == places::of(answer.number, count);
+        run.holds("a refusal has the place that its number and the count tell", placed, shown);
     }
 
     /// The message that is whole, if one is.
@@ -111,6 +120,7 @@ impl Feeds {
             standing == u64::from(answer.number)
         };
         run.holds("an end is refused and stands so, or changes nothing", stands, &shown);
+        self.placed(run, answer, &shown);
         self.message(run, &shown);
         answer
     }
@@ -138,7 +148,8 @@ impl Feeds {
 #[derive(PartialEq)]
 pub struct Came {
     messages: Vec<Vec<u8>>,
-    refusal: u8,
+    /// The answer that refused, as the end repeats it; none of its slots is set where none did.
+    refusal: Answer,
     used: usize,
     feed: Stored,
 }
@@ -150,7 +161,8 @@ pub fn stream(run: &mut Run, stream: &[u8], cutting: &[usize]) -> Came {
     let came = pieces(run, &mut feeds, stream, cutting);
     let ended = feeds.end(run);
     let shown = || format!("cut {cutting:?}, stream {}", hex(stream));
-    run.holds("a refusal is repeated by the end", came.refusal == 0 || ended.number == came.refusal, &shown);
+    let repeated = came.refusal == Answer::default() || ended == came.refusal;
+    run.holds("a refusal is repeated by the end, with its place", repeated, &shown);
     let again = (feeds.end(run), feeds.take(run, &[]), feeds.take(run, stream));
     if ended.number != 0 {
         run.holds("an end that is refused is repeated", again == (ended, ended, ended), &shown);
@@ -168,18 +180,18 @@ fn pieces(run: &mut Run, feeds: &mut Feeds, stream: &[u8], cutting: &[usize]) ->
         loop {
             let answer = feeds.take(run, &stream[used..end]);
             used += usize::from(answer.count);
-            if answer.value != 0 {
+            if answer.number == 0 && answer.value != 0 {
                 messages.push(feeds.ours.kept.content()[..answer.value as usize].to_vec());
             }
             if answer.number != 0 {
-                return Came { messages, refusal: answer.number, used, feed: feeds.ours.clone() };
+                return Came { messages, refusal: Answer { count: 0, ..answer }, used, feed: feeds.ours.clone() };
             }
             if used == end {
                 break;
             }
         }
     }
-    Came { messages, refusal: 0, used, feed: feeds.ours.clone() }
+    Came { messages, refusal: Answer::default(), used, feed: feeds.ours.clone() }
 }
 
 /// The stream in both cuttings; the same must come of it.

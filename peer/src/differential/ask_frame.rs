@@ -2,6 +2,7 @@
 //! Beside each answer, what must hold between answers: our reading of the message, and both round trips.
 
 use super::lent::{array, hex, Lent};
+use super::places;
 use super::run::{Run, Shown};
 use super::tally::{Operation, Outcome};
 use crate::interface::{commid, Answer, ACKNOWLEDGMENT, COMMIDS, DATA_MESSAGE, FIELDS};
@@ -66,6 +67,8 @@ fn unwrap(run: &mut Run, frame: &[u8]) -> Unwrapped {
     run.holds("a refusal writes no COMMID", answer.number == 0 || our_commids == before, &shown);
     let untouched = fields == Lent::new(FIELDS);
     run.holds("an acknowledgment has no fields", answer.count != ACKNOWLEDGMENT || untouched, &shown);
+    let passed_on = answer.number != 67 || places::passed_on(answer, &frame[BEFORE..frame.len() - 1]);
+    run.holds("67 passes on what reading answers", passed_on, &shown);
     Unwrapped {
         answer,
         commids: our_commids.content().try_into().expect("two COMMIDs were lent"),
@@ -121,7 +124,7 @@ pub fn in_room(run: &mut Run, message: &[u8], reading: Answer, commid: u32, room
     }
 }
 
-/// Wraps on both sides; the frame, unless it is refused, and then with the number that reading gives.
+/// Wraps on both sides; the frame, unless it is refused, and then with the number and the place that reading gives.
 fn wrap(run: &mut Run, message: &[u8], commid: u32, room: usize) -> Option<Vec<u8>> {
     let shown = || format!("COMMID {commid}, room {room}, message {}", hex(message));
     let (answer, buffer) = run.beside(
@@ -131,9 +134,9 @@ fn wrap(run: &mut Run, message: &[u8], commid: u32, room: usize) -> Option<Vec<u
         |buffer| mirror::wrap(message, commid, buffer),
         &shown,
     );
-    let reading = ours::read(message, &mut [0; FIELDS]).number;
-    let passed_on = if reading == 0 { answer.number != 67 } else { (answer.number, answer.reading) == (67, reading) };
-    run.holds("67 passes on what reading answers", passed_on, &shown);
+    let refused = ours::read(message, &mut [0; FIELDS]).number != 0;
+    let passed_on = !refused || places::passed_on(answer, message);
+    run.holds("67 passes on what reading answers", (answer.number == 67) == refused && passed_on, &shown);
     written(run, answer, &buffer, message.len() + AROUND, &shown)
 }
 

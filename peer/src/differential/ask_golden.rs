@@ -2,6 +2,7 @@
 //! Beside each answer, what must hold between answers.
 
 use super::lent::{array, hex};
+use super::places;
 use super::run::Run;
 use super::tally::Operation;
 use crate::interface::{Answer, LINE, PART};
@@ -62,6 +63,8 @@ fn step_and_line(run: &mut Run, file: &[u8], record: usize) -> Answer {
         |part| mirror::step(file, record, array(part)),
         &shown,
     );
+    let passed_on = step.number != 25 || places::passed_on(step, stored(file, record));
+    run.holds("25 passes on what reading answers", passed_on, &shown);
     let (answer, line) = line(run, file, record);
     let same = match (step.number, step.value) {
         (0, 0) => answer.number == 22,
@@ -69,10 +72,16 @@ fn step_and_line(run: &mut Run, file: &[u8], record: usize) -> Answer {
             let place = (record * RECORD + PREFIX) as u64;
             answer.number == 0 && part.content() == [place, size.into()] && line[2] == u64::from(size)
         }
-        (number, _) => (answer.number, answer.reading) == (number, step.reading),
+        _ => answer == Answer { count: 0, ..step },
     };
     run.holds("a step and a line tell the same", same, &shown);
     step
+}
+
+/// The message of a record that is there, by its stored length.
+fn stored(file: &[u8], record: usize) -> &[u8] {
+    let record = &file[record * RECORD..][..RECORD];
+    &record[PREFIX..][..usize::from(u16::from_be_bytes([record[0], record[1]]))]
 }
 
 fn line(run: &mut Run, file: &[u8], record: usize) -> (Answer, [u64; LINE]) {
@@ -111,6 +120,11 @@ pub fn find(run: &mut Run, file: &[u8], message_type: u16, number: u32) -> Answe
         run.holds("what is found has the type and number sought", found, &shown);
         run.holds("the record found is the last opened", answer.value + 1 == u32::from(answer.count), &shown);
     }
+    if matches!(answer.number, 23..=25) {
+        let (bad, _) = line(run, file, usize::from(answer.count) - 1);
+        let same = answer == Answer { count: answer.count, ..bad };
+        run.holds("a search that a bad record ends tells what its line does", same, &shown);
+    }
     answer
 }
 
@@ -126,7 +140,9 @@ pub fn comparison(run: &mut Run, file: &[u8], record: usize, radio: &[u8]) {
             |places| mirror::compare(file, record, radio, places),
             &shown,
         );
-        if answer.number == 0 {
+        if answer.number != 0 {
+            refused_comparison(run, file, record, radio, answer);
+        } else {
             let listed = &places.content()[..room.min(answer.value as usize)];
             run.holds("places ascend", listed.windows(2).all(|pair| pair[0] < pair[1]), &shown);
             let stored = &file[record * RECORD + PREFIX..][..radio.len().min(RECORD - PREFIX)];
@@ -139,6 +155,17 @@ pub fn comparison(run: &mut Run, file: &[u8], record: usize, radio: &[u8]) {
     }
 }
 
+/// A comparison that is refused by the radio's message, or by the record as its line is.
+fn refused_comparison(run: &mut Run, file: &[u8], record: usize, radio: &[u8], answer: Answer) {
+    let shown = || format!("record {record}, radio {}, file {}", hex(radio), hex(file));
+    if answer.number == 31 {
+        run.holds("31 passes on what reading answers", places::passed_on(answer, radio), &shown);
+    } else {
+        let (line, _) = line(run, file, record);
+        run.holds("a comparison that a record ends tells what its line does", answer == line, &shown);
+    }
+}
+
 /// The listing of a file, from its count and its lines.
 pub fn listing(
     file: &[u8],
@@ -147,7 +174,7 @@ pub fn listing(
 ) -> String {
     let count = records(file);
     if count.number != 0 {
-        return format!("refused {} {}\n", count.number, count.reading);
+        return format!("refused {} {} {}\n", count.number, count.reading, count.value);
     }
     let mut listing = format!("records {}\n", count.count);
     for record in 0..usize::from(count.count) {
@@ -155,7 +182,7 @@ pub fn listing(
         let answer = line(file, record, &mut told);
         listing += &match answer.number {
             0 => format!("{record} {} {} {}\n", told[0], told[1], told[2]),
-            number => format!("{record} refused {number} {}\n", answer.reading),
+            number => format!("{record} refused {number} {} {}\n", answer.reading, answer.value),
         };
     }
     listing

@@ -52,7 +52,8 @@ fn lettered_cases(run: &mut Run) {
         run.input();
         let answer = ask_envelope::message(run, &case.message);
         let shown = || format!("case {}, message {}", case.name, hex(&case.message));
-        run.holds("a case has the answer told", answer.number == case.answer, &shown);
+        let told = (answer.number, answer.value as usize) == (case.answer, case.place);
+        run.holds("a case has the answer told", told, &shown);
     }
     for (letter, old, new, distance) in [("k", u32::MAX, 0, 1), ("l", 0, 1 << 31, i32::MIN)] {
         run.input();
@@ -66,7 +67,7 @@ fn lettered_cases(run: &mut Run) {
     run.holds("a case has the answer told", parts == [0, 0, 0, 1, 0], &|| String::from("case m"));
     let file = cases::listed_file();
     listed(run, &file, cases::LISTING);
-    listed(run, &file[..RECORD + 1], "refused 21 0\n");
+    listed(run, &file[..RECORD + 1], "refused 21 0 0\n");
     listed(run, &[], "records 0\n");
 }
 

@@ -3,7 +3,8 @@
 use super::ask_feed::{self, Feeds};
 use super::lent::hex;
 use super::run::Run;
-use super::{feed_inputs, inputs};
+use super::{feed_inputs, inputs, places};
+use crate::interface::Answer;
 use peer::cases;
 use peer::envelope::{COMMON, SHORTEST};
 use peer::feed::LONGEST;
@@ -14,6 +15,7 @@ pub fn short(run: &mut Run) {
     every_end(run);
     every_heading(run);
     every_announced_length(run);
+    every_refusal_that_stands(run);
 }
 
 /// Short streams: each lettered case alone, before M and behind it, and three messages of kind CRC.
@@ -130,5 +132,23 @@ fn every_announced_length(run: &mut Run) {
     for size in [490, 491, 0x00_FFFF, 0x01_0000, 0x01_0001, 0x80_0000, 0xFF_FE00, 0xFF_FFFF] {
         let heading = feed_inputs::announcing(&mut run.random, SHORTEST + size, 0, 0);
         told_at_the_17th(run, heading, 51);
+    }
+}
+
+/// Every number that a feed can stand refused by, with every count to 520 and with some that are far larger.
+fn every_refusal_that_stands(run: &mut Run) {
+    run.family("every refusal that stands");
+    let far = [65_535, 65_536, 65_553, 1 << 32, (1 << 32) + 21, 1 << 63, u64::MAX - 1, u64::MAX];
+    for number in [1, 2, 3, 4, 5, 6, 7, 51, 52] {
+        for count in (0..=520).chain(far) {
+            run.input();
+            let kept = run.random.bytes(LONGEST).try_into().expect("so many were drawn");
+            let mut feeds = Feeds::of(&kept, [count, number.into()]);
+            let told = [feeds.take(run, &[]), feeds.take(run, &[4, 0]), feeds.end(run)];
+            let place = places::of(number, count.min(LONGEST as u64) as usize);
+            let expected = Answer { number, value: place as u32, ..Answer::default() };
+            let shown = || format!("{number} stands with {count} bytes in, told {told:?}");
+            run.holds("a refusal that stands is told again, with its place", told == [expected; 3], &shown);
+        }
     }
 }

@@ -28,7 +28,7 @@ fn told(run: &mut Run, frame: &[u8], expected: Told) {
     let told = match (answer.number, answer.count) {
         (0, DATA_MESSAGE) => Told::Data(own),
         (0, ACKNOWLEDGMENT) => Told::Acknowledgment(own, acknowledged),
-        _ => Told::Refused(answer.number, answer.reading),
+        _ => Told::Refused(answer.number, answer.reading, answer.value as usize),
     };
     let shown = || format!("expected {expected:?}, told {told:?}, frame {}", hex(frame));
     run.holds("of a frame is told what must be", told == expected, &shown);
@@ -66,22 +66,22 @@ fn every_byte(run: &mut Run) {
 fn by_place(frame: &[u8], changed: &[u8], place: usize) -> Told {
     let commid = u32::from_be_bytes([changed[2], changed[3], changed[4], changed[5]]);
     match place {
-        0 => Told::Refused(62, 0),
-        1 | 7 => Told::Refused(63, 0),
+        0 => Told::Refused(62, 0, 0),
+        1 | 7 => Told::Refused(63, 0, 0),
         2..=5 if frame[6] == 1 => Told::Data(commid),
         2..=5 => Told::Acknowledgment(commid, 7),
         6 => other_type(frame[6], changed[6]),
-        8..BODY => Told::Refused(65, 0),
-        _ => Told::Refused(66, 0),
+        8..BODY => Told::Refused(65, 0, 0),
+        _ => Told::Refused(66, 0, 0),
     }
 }
 
 /// What is told of a good frame with another type: four bytes are no message, and a message is no acknowledgment.
 fn other_type(right: u8, other: u8) -> Told {
     match (right, other) {
-        (2, 1) => Told::Refused(67, 1),
-        (1, 2) => Told::Refused(65, 0),
-        _ => Told::Refused(64, 0),
+        (2, 1) => Told::Refused(67, 1, 4),
+        (1, 2) => Told::Refused(65, 0, 0),
+        _ => Told::Refused(64, 0, 0),
     }
 }
 
@@ -97,9 +97,9 @@ fn every_cut(run: &mut Run) {
         frame.extend(run.random.bytes(10));
         for length in 0..=frame.len() {
             let expected = match length {
-                ..AROUND => Told::Refused(61, 0),
+                ..AROUND => Told::Refused(61, 0, 0),
                 _ if length == right => whole,
-                _ => Told::Refused(65, 0),
+                _ => Told::Refused(65, 0, 0),
             };
             told(run, &frame[..length], expected);
         }
@@ -117,11 +117,11 @@ fn every_length(run: &mut Run) {
                 frame[6] = frame_type;
                 frame[8..BODY].copy_from_slice(&stated.to_be_bytes());
                 let expected = match (frame_type, size) {
-                    _ if stated != size => Told::Refused(65, 0),
+                    _ if stated != size => Told::Refused(65, 0, 0),
                     (2, 4) => Told::Acknowledgment(5, 0),
-                    (2, _) => Told::Refused(65, 0),
-                    (_, ..21) => Told::Refused(67, 1),
-                    _ => Told::Refused(67, 2),
+                    (2, _) => Told::Refused(65, 0, 0),
+                    (_, ..21) => Told::Refused(67, 1, size as usize),
+                    _ => Told::Refused(67, 2, 0),
                 };
                 told(run, &frame, expected);
             }
@@ -160,8 +160,9 @@ fn every_set_of_faults(run: &mut Run) {
             let frame = broken(run, has);
             let expected = match expected {
                 None => Told::Data(7),
-                Some(67) => Told::Refused(67, 7),
-                Some(rule) => Told::Refused(rule, 0),
+                // The field is the last four bytes of the body.
+                Some(67) => Told::Refused(67, 7, frame.len() - AROUND - 4),
+                Some(rule) => Told::Refused(rule, 0, 0),
             };
             told(run, &frame, expected);
         }

@@ -1,6 +1,7 @@
 //! The bytes that every run hands to the judge: cases judged by hand, and the edges of each rule.
 //! Where the verdicts can be told without a judge, they are.
 
+use super::ask_judge::Judged;
 use super::judge_inputs::mend_field;
 use super::lent::hex;
 use super::run::Run;
@@ -18,17 +19,21 @@ pub fn short(run: &mut Run) {
     every_set_of_faults(run);
 }
 
-fn judged_as(run: &mut Run, message: &[u8], expected: [u8; RULES]) {
+/// Judges these bytes, on which these verdicts must be told; gives the places.
+fn judged_as(run: &mut Run, message: &[u8], expected: [u8; RULES]) -> [u64; RULES] {
     run.input();
-    let told = ask_judge::message(run, message);
-    let shown = || format!("expected {expected:?}, judged {told:?}, message {}", hex(message));
-    run.holds("the verdicts are those told", told == expected, &shown);
+    let Judged { verdicts, places } = ask_judge::message(run, message);
+    let shown = || format!("expected {expected:?}, judged {verdicts:?}, message {}", hex(message));
+    run.holds("the verdicts are those told", verdicts == expected, &shown);
+    places
 }
 
 fn by_hand(run: &mut Run) {
     run.family("cases judged by hand");
     for case in judged::all() {
-        judged_as(run, &case.bytes, case.verdicts.map(mirror::verdict_number));
+        let places = judged_as(run, &case.bytes, case.verdicts.map(mirror::verdict_number));
+        let same = places == case.verdicts.map(mirror::verdict_place);
+        run.holds("the places are those told", same, &|| format!("{places:?}, message {}", hex(&case.bytes)));
     }
 }
 

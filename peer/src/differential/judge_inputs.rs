@@ -57,7 +57,7 @@ fn zero_or_letter(random: &mut Random, message: &mut [u8]) {
 }
 
 /// Where the integrity field begins by V and D, in a message that holds both.
-fn field_place(message: &[u8]) -> usize {
+pub fn field_place(message: &[u8]) -> usize {
     let d = u32::from_be_bytes([0, message[LOW_D - 2], message[LOW_D - 1], message[LOW_D]]);
     COMMON + usize::from(message[V]) + d as usize
 }

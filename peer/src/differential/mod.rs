@@ -12,10 +12,12 @@ mod fixed;
 mod fixed_feed;
 mod fixed_frame;
 mod fixed_judge;
+mod fixed_places;
 mod frame_inputs;
 mod inputs;
 mod judge_inputs;
 mod lent;
+mod places;
 mod run;
 mod tally;
 
@@ -55,6 +57,7 @@ pub fn command(words: &[String]) -> Option<ExitCode> {
     fixed_feed::short(&mut run);
     fixed_judge::short(&mut run);
     fixed_frame::short(&mut run);
+    fixed_places::short(&mut run);
     drawn(&mut run, options.count);
     fixed::long(&mut run);
     println!("answers, with how often each came:");

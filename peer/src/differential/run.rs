@@ -62,6 +62,7 @@ impl Run {
         if answer.number != 0 {
             self.holds("a refusal writes nothing", our_storage == before, shown);
         }
+        self.placed(answer, shown);
         self.tally.count(operation, Outcome::of(operation, answer));
         (answer, our_storage)
     }
@@ -76,8 +77,16 @@ impl Run {
     ) -> Answer {
         let answer = ours();
         self.equal(operation, answer, peer(), shown);
+        self.placed(answer, shown);
         self.tally.count(operation, Outcome::of(operation, answer));
         answer
+    }
+
+    /// Of the refusals those have a place that are by reading, and those that pass one of these on.
+    fn placed(&self, answer: Answer, shown: Shown) {
+        let by_reading = matches!((answer.number, answer.reading), (1..=7, 0) | (25 | 31 | 34 | 67, 1..=7));
+        let placed = answer.number == 0 || by_reading || answer.value == 0;
+        self.holds("a refusal that is not by reading has no place", placed, shown);
     }
 
     /// Two answers to the same question.

@@ -19,6 +19,7 @@ pub enum Operation {
     Distance,
     Sequence,
     Judge,
+    JudgePlaces,
     Records,
     Check,
     Find,
@@ -64,7 +65,7 @@ impl fmt::Display for Outcome {
 impl Outcome {
     pub fn of(operation: Operation, answer: Answer) -> Outcome {
         match (operation, answer.number, answer.reading) {
-            (Operation::Judge, 0, rule @ 1..) => Outcome::Lowest(rule),
+            (Operation::Judge | Operation::JudgePlaces, 0, rule @ 1..) => Outcome::Lowest(rule),
             (_, 0, _) => Outcome::Done(word(operation, answer)),
             (_, number, 0) => Outcome::Refused(number),
             (_, number, reading) => Outcome::Unread(number, reading),
@@ -85,7 +86,7 @@ fn word(operation: Operation, answer: Answer) -> &'static str {
         (Operation::Sequence, _, NEXT) => "next",
         (Operation::Sequence, _, AHEAD) => "ahead",
         (Operation::Sequence, _, BEHIND) => "behind",
-        (Operation::Judge, ..) => "none broken",
+        (Operation::Judge | Operation::JudgePlaces, ..) => "none broken",
         (Operation::Unwrap, _, DATA_MESSAGE) => "data message",
         (Operation::Unwrap, _, ACKNOWLEDGMENT) => "acknowledgment",
         _ => "done",
@@ -124,12 +125,15 @@ impl Tally {
     }
 }
 
-fn required() -> Vec<(Operation, Outcome)> {
+/// The ways in which an operation must have been done, and the numbers by which it must have refused.
+type Required = (Operation, &'static [&'static str], &'static [u8]);
+
+const REQUIRED: [Required; 26] = {
     use Operation::{Acknowledge, First, Unwrap, Wrap};
-    use Operation::{Check, Compare, Crc, Distance, Find, Judge, Lateness, Line, Make};
+    use Operation::{Check, Compare, Crc, Distance, Find, Judge, JudgePlaces, Lateness, Line, Make};
     use Operation::{FeedEnd, FeedMessage, FeedRestart, FeedTake};
     use Operation::{QosJoin, QosSplit, Read, Records, Rewrite, Sequence, Step, Write};
-    let table: [(Operation, &[&'static str], &[u8]); 25] = [
+    [
         (Crc, &["done"], &[]),
         (Read, &["done"], &[1, 2, 3, 4, 5, 6, 7]),
         (Write, &["done"], &[11, 12, 13, 14, 15]),
@@ -140,6 +144,7 @@ fn required() -> Vec<(Operation, Outcome)> {
         (Distance, &["done"], &[]),
         (Sequence, &["repeat", "next", "ahead", "behind"], &[]),
         (Judge, &["none broken"], &[]),
+        (JudgePlaces, &["none broken"], &[]),
         (Records, &["done"], &[21]),
         (Check, &["done"], &[21, 23, 24, 25]),
         (Find, &["done"], &[21, 23, 24, 25, 27]),
@@ -155,9 +160,14 @@ fn required() -> Vec<(Operation, Outcome)> {
         (Wrap, &["done"], &[67, 68]),
         (Acknowledge, &["done"], &[68]),
         (First, &["as stated", "shorter than stated", "fewer than 13"], &[]),
-    ];
-    let mut required: Vec<_> = judged().into_iter().map(|outcome| (Judge, outcome)).collect();
-    for (operation, words, numbers) in table {
+    ]
+};
+
+fn required() -> Vec<(Operation, Outcome)> {
+    let lowest = (1..=RULES as u8).map(|rule| (Operation::JudgePlaces, Outcome::Lowest(rule)));
+    let judged = judged().into_iter().map(|outcome| (Operation::Judge, outcome));
+    let mut required: Vec<_> = judged.chain(lowest).collect();
+    for (operation, words, numbers) in REQUIRED {
         required.extend(words.iter().map(|word| (operation, Outcome::Done(word))));
         required.extend(numbers.iter().flat_map(|&number| refusals(number)).map(|outcome| (operation, outcome)));
     }

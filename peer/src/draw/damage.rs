@@ -109,7 +109,7 @@ mod tests {
     use crate::envelope::read;
 
     fn refused(message: &[u8]) -> u8 {
-        read::<Division>(message).map_or_else(|unread| unread as u8, |_| 0)
+        read::<Division>(message).map_or_else(|unread| unread.numbers().0, |_| 0)
     }
 
     #[test]

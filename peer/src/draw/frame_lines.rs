@@ -163,7 +163,7 @@ mod tests {
             for _ in 0..300 {
                 let (name, frame) = broken(&mut random, place);
                 let told = unwrap::<Division>(&frame).map_err(|refusal| refusal.numbers());
-                assert_eq!(told, Err((rule, 0)), "{name}: {frame:02x?}");
+                assert_eq!(told, Err((rule, 0, 0)), "{name}: {frame:02x?}");
             }
         }
     }

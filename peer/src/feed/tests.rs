@@ -5,9 +5,13 @@ use crate::cases::{self, one_body_byte, shortest, with_ends};
 use crate::crc::Division;
 use crate::random::Random;
 
+fn number(refusal: Refusal) -> u8 {
+    refusal.numbers().0
+}
+
 fn take(feed: &mut Feed, piece: &[u8]) -> (usize, Result<Option<u32>, u8>) {
     let Taken { used, found } = feed.take::<Division>(piece);
-    (used, found.map(|fields| fields.map(|fields| fields.number)).map_err(Refusal::number))
+    (used, found.map(|fields| fields.map(|fields| fields.number)).map_err(number))
 }
 
 /// All that comes of some bytes in pieces of these sizes, the last of them again and again.
@@ -26,7 +30,7 @@ fn outcome(mut feed: Feed, bytes: &[u8], sizes: &[usize]) -> Outcome {
         let size = sizes.next().unwrap_or(1).min(bytes.len() - used);
         let taken = feed.take::<Division>(&bytes[used..used + size]);
         used += taken.used;
-        refusal = taken.found.err().map(Refusal::number);
+        refusal = taken.found.err().map(number);
         messages.extend(feed.message().filter(|_| taken.used > 0).map(<[u8]>::to_vec));
     }
     Outcome { messages, refusal, used, feed }
@@ -136,7 +140,7 @@ fn a_refusal_is_repeated_and_nothing_used_until_a_restart() {
     let refused = feed.clone();
     for piece in [&bad[21..], &[], &[4]] {
         assert_eq!(take(&mut feed, piece), (0, Err(7)));
-        assert_eq!(feed.end().map_err(Refusal::number), Err(7));
+        assert_eq!(feed.end().map_err(number), Err(7));
         assert_eq!(feed, refused);
     }
     feed.restart();

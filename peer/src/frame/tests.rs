@@ -13,8 +13,8 @@ fn told(frame: &[u8]) -> Told {
         Ok(Unwrapped { commid, body: Body::Message { .. } }) => Told::Data(commid),
         Ok(Unwrapped { commid, body: Body::Acknowledged(acknowledged) }) => Told::Acknowledgment(commid, acknowledged),
         Err(refusal) => {
-            let (number, reading) = refusal.numbers();
-            Told::Refused(number, reading)
+            let (number, reading, place) = refusal.numbers();
+            Told::Refused(number, reading, place)
         }
     }
 }
@@ -61,7 +61,7 @@ fn every_first_byte_version_type_and_last_byte_is_judged() {
             if byte == good {
                 Told::Acknowledgment(9, 7)
             } else {
-                Told::Refused(number, 0)
+                Told::Refused(number, 0, 0)
             }
         };
         assert_eq!(with(0), unless(2, 62), "first byte {byte}");
@@ -70,7 +70,7 @@ fn every_first_byte_version_type_and_last_byte_is_judged() {
         assert_eq!(with(16), unless(3, 66), "last byte {byte}");
         let by_type = match byte {
             // Four bytes are no message.
-            1 => Told::Refused(67, 1),
+            1 => Told::Refused(67, 1, 4),
             _ => unless(2, 64),
         };
         assert_eq!(with(6), by_type, "type {byte}");
@@ -91,7 +91,7 @@ fn a_frame_is_refused_at_every_shorter_length() {
 fn an_acknowledgment_has_a_body_of_four_bytes_alone() {
     for size in 0..=9 {
         let frame = [&from_hex("02 02 00000009 02 02 000000"), [size].as_slice(), &vec![0; size.into()], &[3]].concat();
-        let expected = if size == 4 { Told::Acknowledgment(9, 0) } else { Told::Refused(65, 0) };
+        let expected = if size == 4 { Told::Acknowledgment(9, 0) } else { Told::Refused(65, 0, 0) };
         assert_eq!(told(&frame), expected, "{size} bytes");
     }
 }
@@ -130,7 +130,8 @@ fn a_message_that_reading_refuses_is_not_wrapped() {
     for case in cases::messages().into_iter().filter(|case| case.answer != 0) {
         for room in [0, case.message.len() + 12, case.message.len() + 13, 600] {
             let (answer, buffer) = wrapped(&case.message, 7, room);
-            assert_eq!(answer.map_err(Refusal::numbers), Err((67, case.answer)), "case {}, room {room}", case.name);
+            let expected = Err((67, case.answer, case.place));
+            assert_eq!(answer.map_err(Refusal::numbers), expected, "case {}, room {room}", case.name);
             assert_eq!(buffer, vec![UNTOUCHED; room], "case {}, room {room}", case.name);
         }
     }
@@ -223,12 +224,12 @@ fn a_capture_is_cut_frame_by_frame() {
     let (data, acknowledgment) = ((34, Told::Data(7)), (17, Told::Acknowledgment(9, 7)));
     assert_eq!(capture(&[]), []);
     assert_eq!(capture(&frames), [data, acknowledgment, data]);
-    assert_eq!(capture(&frames[..84]), [data, acknowledgment, (33, Told::Refused(65, 0))]);
-    assert_eq!(capture(&frames[..63]), [data, acknowledgment, (12, Told::Refused(61, 0))]);
-    assert_eq!(capture(&frames[..52]), [data, acknowledgment, (1, Told::Refused(61, 0))]);
+    assert_eq!(capture(&frames[..84]), [data, acknowledgment, (33, Told::Refused(65, 0, 0))]);
+    assert_eq!(capture(&frames[..63]), [data, acknowledgment, (12, Told::Refused(61, 0, 0))]);
+    assert_eq!(capture(&frames[..52]), [data, acknowledgment, (1, Told::Refused(61, 0, 0))]);
     assert_eq!(capture(&frames[..51]), [data, acknowledgment]);
     // A test message between two frames is refused by itself; the next one is found behind it.
     let between = from_hex("02 02 00000008 1e 02 00000000 03");
     let three = [framed::wrapped(), between, framed::acknowledged()].concat();
-    assert_eq!(capture(&three), [data, (13, Told::Refused(64, 0)), acknowledgment]);
+    assert_eq!(capture(&three), [data, (13, Told::Refused(64, 0, 0)), acknowledgment]);
 }

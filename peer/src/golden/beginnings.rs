@@ -27,7 +27,7 @@ fn one_begins_the_other(left: &[u8], right: &[u8]) -> bool {
 /// Why a message cut to this length is refused; its header is as good as before.
 fn cut_short(length: usize) -> Unread {
     if length < SHORTEST {
-        Unread::TooShort
+        Unread::TooShort { place: length }
     } else {
         Unread::Length
     }

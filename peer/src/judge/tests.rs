@@ -1,14 +1,18 @@
 //! The sentences of change request K5, and the cases that were judged by hand.
 
-use super::Verdict::{Broken, Kept, NotJudged};
+use super::Verdict::{Kept, NotJudged};
 use super::*;
 use crate::cases::{self, judged, shortest, with_ends};
-use crate::envelope;
+use crate::envelope::{self, Unread};
 use crate::random::Random;
 
 /// The verdict on one rule, by its number.
 fn on(rule: usize, bytes: &[u8]) -> Verdict {
     judge(bytes)[rule - 1]
+}
+
+fn broken(place: usize) -> Verdict {
+    Verdict::Broken { place }
 }
 
 fn with(place: usize, byte: u8) -> Vec<u8> {
@@ -30,9 +34,9 @@ fn each_case_is_judged_as_by_hand() {
 fn the_lowest_broken_rule_is_the_first_in_their_order() {
     assert_eq!(lowest_broken(&[Kept; RULES]), None);
     assert_eq!(lowest_broken(&[NotJudged; RULES]), None);
-    assert_eq!(lowest_broken(&[Broken; RULES]), Some(1));
-    assert_eq!(lowest_broken(&[Kept, Kept, NotJudged, Broken, Kept, Kept, Broken]), Some(4));
-    assert_eq!(lowest_broken(&[Kept, Kept, Kept, Kept, Kept, NotJudged, Broken]), Some(7));
+    assert_eq!(lowest_broken(&[20, 0, 4, 16, 5, 21, 17].map(broken)), Some((1, 20)));
+    assert_eq!(lowest_broken(&[Kept, Kept, NotJudged, broken(16), Kept, Kept, broken(30)]), Some((4, 16)));
+    assert_eq!(lowest_broken(&[Kept, Kept, Kept, Kept, Kept, NotJudged, broken(30)]), Some((7, 30)));
 }
 
 /// The addresses of this message end at place 23, its body at 25 and its field, the sum that zlib gave, at 29.
@@ -41,11 +45,11 @@ fn a_rule_is_judged_as_soon_as_its_bytes_are_there() {
     let message = cases::from_hex("04 1770 01 08 000002 00000001 00000000 07 0078 0000 4100 00 beef e928056f 04 17");
     for length in 0..=message.len() {
         let verdict = |from: usize| if length >= from { Kept } else { NotJudged };
-        let long_enough = if length < 21 { Broken } else { Kept };
+        let long_enough = if length < 21 { broken(length) } else { Kept };
         let right_length = match length {
             0..=16 => NotJudged,
             30 => Kept,
-            _ => Broken,
+            _ => broken(5),
         };
         let expected = [long_enough, verdict(1), verdict(5), verdict(17), right_length, verdict(24), verdict(30)];
         assert_eq!(judge(&message[..length]), expected, "{length} bytes");
@@ -55,7 +59,7 @@ fn a_rule_is_judged_as_soon_as_its_bytes_are_there() {
 #[test]
 fn the_header_version_is_4_alone() {
     for version in 0..=u8::MAX {
-        assert_eq!(on(2, &with(0, version)), if version == 4 { Kept } else { Broken }, "version {version}");
+        assert_eq!(on(2, &with(0, version)), if version == 4 { Kept } else { broken(0) }, "version {version}");
     }
 }
 
@@ -63,7 +67,7 @@ fn the_header_version_is_4_alone() {
 #[test]
 fn flags_are_kept_up_to_23() {
     for flags in 0..=u8::MAX {
-        assert_eq!(on(3, &with(4, flags)), if flags < 24 { Kept } else { Broken }, "flags {flags}");
+        assert_eq!(on(3, &with(4, flags)), if flags < 24 { Kept } else { broken(4) }, "flags {flags}");
     }
 }
 
@@ -73,8 +77,8 @@ fn the_addresses_are_judged_for_v_from_6_to_132() {
         let mut message = with_ends(v, &[b'A'; 251]);
         let (size, addresses) = match v {
             0 => (Kept, NotJudged),
-            6..=132 => (Kept, Broken),
-            _ => (Broken, NotJudged),
+            6..=132 => (Kept, broken(21)),
+            _ => (broken(16), NotJudged),
         };
         assert_eq!((on(4, &message), on(6, &message)), (size, addresses), "V {v}");
         // One byte fewer than the addresses take.
@@ -87,7 +91,7 @@ fn the_addresses_are_judged_for_v_from_6_to_132() {
 fn each_address_has_at_most_64_bytes_with_its_zero() {
     for source in 0..=126 {
         let ends = [vec![b'S'; source], vec![0], vec![b'D'; 126 - source], vec![0]].concat();
-        assert_eq!(on(6, &with_ends(132, &ends)), if source == 63 { Kept } else { Broken }, "{source} letters");
+        assert_eq!(on(6, &with_ends(132, &ends)), if source == 63 { Kept } else { broken(21) }, "{source} letters");
     }
 }
 
@@ -103,7 +107,7 @@ fn the_field_stands_where_v_and_d_put_it() {
             assert_eq!(on(7, &message), Kept, "V {v}, D {d}");
             assert_eq!(on(7, &message[..last]), NotJudged, "V {v}, D {d}, a byte short");
             message[last] = 1;
-            assert_eq!(on(7, &message), Broken, "V {v}, D {d}, a field of 1");
+            assert_eq!(on(7, &message), broken(17 + usize::from(v) + d), "V {v}, D {d}, a field of 1");
             message[last] = 0;
             message.extend([1; 4]);
             assert_eq!(on(7, &message), Kept, "V {v}, D {d}, bytes behind the field");
@@ -133,9 +137,9 @@ fn the_lowest_broken_rule_is_what_reading_refuses_by() {
     let mut met = [0; RULES + 1];
     for _ in 0..20_000 {
         let message = drawn(&mut random);
-        let read = envelope::read::<Division>(&message).map_or_else(|unread| unread as u8, |_| 0);
-        assert_eq!(lowest_broken(&judge(&message)).unwrap_or(0), read, "{message:02x?}");
-        met[usize::from(read)] += 1;
+        let read = envelope::read::<Division>(&message).err().map(Unread::numbers);
+        assert_eq!(lowest_broken(&judge(&message)), read, "{message:02x?}");
+        met[read.map_or(0, |(number, _)| usize::from(number))] += 1;
     }
     assert!(met.iter().all(|&times| times > 20), "accepted, and refused by each rule: {met:?}");
 }
