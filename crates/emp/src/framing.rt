@@ -1,6 +1,8 @@
 // Unwrap, wrap and acknowledge: what a frame or a capture holds, and frames made on standard output and nowhere else.
 // Rests on `frame`, which unwraps, measures, wraps and acknowledges.
 use crate::reading::show_message;
+use crate::refusing::refuse_by;
+use crate::refusing::refuse_message;
 use envelope::Header;
 use envelope::Part;
 use frame::Acknowledgment;
@@ -11,20 +13,24 @@ use frame::Wrapped;
 use frame::acknowledge;
 use frame::first;
 use frame::layout::ACKNOWLEDGMENT_SIZE;
+use frame::layout::BODY_PLACE;
 use frame::layout::LEAST_SIZE;
 use frame::unwrap;
 use frame::wrap;
+use std::num::wrapping_add_u64;
 use wording::Manner;
 use wording::Status;
 use wording::files::MOST;
-use wording::refuse;
-use wording::refuse_to_make;
+use wording::refusals::FRAME;
+use wording::refusals::OF_FILE;
+use wording::refusals::Subject;
+use wording::refusals::TO_BE_MADE;
 use wording::rows;
 use wording::tell;
 use wording::telling::put;
 
 // The data message of the longest message that is taken.
-const FRAME: usize = LEAST_SIZE + MOST;
+const ROOM: usize = LEAST_SIZE + MOST;
 
 // Where a frame stands in its file: its number, or 0 where it is alone and goes without, and its first place.
 struct Spot {
@@ -162,22 +168,21 @@ fn tell_acknowledgment(
     )
 }
 
+// The message begins behind the frame's header.
 fn refuse_frame(manner: Manner, spot: Spot, refusal: Refusal) -> Status {
-    let numbers = refusal.numbers();
-    refuse(
-        manner,
-        rows::BAD_FRAME,
-        &[
-            spot.frame as u64,
-            spot.place as u64,
-            numbers.number as u64,
-            numbers.reading as u64,
-        ],
-    )
+    let place = spot.place as u64;
+    let of = Subject {
+        what: FRAME,
+        number: spot.frame as u64,
+        further: place,
+        whole: OF_FILE,
+        from: wrapping_add_u64(place, BODY_PLACE as u64),
+    };
+    refuse_by(manner, of, refusal.numbers())
 }
 
 pub fn wrap_message(manner: Manner, commid: u32, message: &[u8]) -> Status {
-    let mut buffer = [0u8; FRAME];
+    let mut buffer = [0u8; ROOM];
     let wrapped = wrap(message, commid, &mut buffer);
     put_frame(manner, wrapped, &buffer)
 }
@@ -194,11 +199,6 @@ fn put_frame(manner: Manner, wrapped: Wrapped, buffer: &[u8]) -> Status {
             let whole = Part { place: 0, size };
             put(whole.slice(buffer), Status::Done)
         }
-        Wrapped::Refused(refusal) => not_wrapped(manner, refusal),
+        Wrapped::Refused(refusal) => refuse_message(manner, TO_BE_MADE, refusal.numbers()),
     }
-}
-
-fn not_wrapped(manner: Manner, refusal: Refusal) -> Status {
-    let numbers = refusal.numbers();
-    refuse_to_make(manner, &[numbers.number as u64, numbers.reading as u64])
 }

@@ -1,5 +1,6 @@
 // List, check and find: what a golden file holds.
-// Rests on `golden`, which judges, finds and counts.
+// Rests on `golden`, which judges, finds and counts, and knows where a record has its message.
+use crate::refusing::refuse_by;
 use golden::Checking;
 use golden::Counting;
 use golden::Entry;
@@ -10,9 +11,15 @@ use golden::check;
 use golden::count;
 use golden::entry_at;
 use golden::find;
+use golden::stored_message;
 use wording::Manner;
 use wording::Status;
-use wording::refuse;
+use wording::refusals::GOLDEN_FILE;
+use wording::refusals::OF_FILE;
+use wording::refusals::RECORD;
+use wording::refusals::SEARCHED_FILE;
+use wording::refusals::SEARCHED_RECORD;
+use wording::refusals::Subject;
 use wording::rows;
 use wording::tell;
 
@@ -25,7 +32,7 @@ pub fn list_file(manner: Manner, file: &[u8]) -> Status {
                 _ => Status::Complained,
             }
         }
-        Counting::Refused(refusal) => refuse_record(manner, rows::BAD, 0, refusal, 0),
+        Counting::Refused(refusal) => refuse_record(manner, file, 0, refusal),
     }
 }
 
@@ -64,29 +71,14 @@ fn list_record(manner: Manner, file: &[u8], n: usize) -> Status {
             &[n as u64, message_type as u64, number as u64, size as u64],
             file,
         ),
-        Entry::Refused(refusal) => refuse_listed(manner, n, refusal),
+        Entry::Refused(refusal) => refuse_record(manner, file, n, refusal),
     }
-}
-
-fn refuse_listed(manner: Manner, n: usize, refusal: Refusal) -> Status {
-    let numbers = refusal.numbers();
-    refuse(
-        manner,
-        rows::LISTED_BAD,
-        &[n as u64, numbers.number as u64, numbers.reading as u64],
-    )
 }
 
 pub fn check_file(manner: Manner, file: &[u8]) -> Status {
     match check(file) {
         Checking::Count(count) => tell(manner, Status::Done, rows::CHECKED, &[count as u64], file),
-        Checking::Refused { record, refusal } => refuse_record(
-            manner,
-            rows::BAD,
-            record,
-            refusal,
-            0,
-        ),
+        Checking::Refused { record, refusal } => refuse_record(manner, file, record, refusal),
     }
 }
 
@@ -99,13 +91,11 @@ pub fn find_record(manner: Manner, file: &[u8], name: Name) -> Status {
             &[record as u64, opened as u64],
             file,
         ),
-        Finding::Refused { refusal, opened } => refuse_record(
-            manner,
-            rows::NOT_FOUND,
-            last_of(opened),
-            refusal,
-            opened,
-        ),
+        Finding::Refused { refusal, opened } => {
+            let what = what_of(refusal, SEARCHED_FILE, SEARCHED_RECORD);
+            let of = subject_in(file, what, last_of(opened), opened as u64);
+            refuse_by(manner, of, refusal.numbers())
+        }
     }
 }
 
@@ -117,35 +107,29 @@ fn last_of(opened: usize) -> usize {
     opened - 1
 }
 
-// Whether the refusal is the record's own, and then the record; the records opened, the refusal, and those opened again.
-fn refuse_record(
-    manner: Manner,
-    row: usize,
-    record: usize,
-    refusal: Refusal,
-    opened: usize,
-) -> Status {
-    let numbers = refusal.numbers();
-    let opened = opened as u64;
-    refuse(
-        manner,
-        row,
-        &[
-            is_of_record(refusal),
-            record as u64,
-            opened,
-            numbers.number as u64,
-            numbers.reading as u64,
-            opened,
-        ],
-    )
+fn refuse_record(manner: Manner, file: &[u8], record: usize, refusal: Refusal) -> Status {
+    let what = what_of(refusal, GOLDEN_FILE, RECORD);
+    let of = subject_in(file, what, record, 0);
+    refuse_by(manner, of, refusal.numbers())
 }
 
-fn is_of_record(refusal: Refusal) -> u64 {
+// Whether the refusal is the whole file's or a record's own.
+fn what_of(refusal: Refusal, whole: u64, one: u64) -> u64 {
     match refusal {
-        Refusal::BadLength => 1,
-        Refusal::NotClear => 1,
-        Refusal::RecordRefused(_) => 1,
-        _ => 0,
+        Refusal::BadLength => one,
+        Refusal::NotClear => one,
+        Refusal::RecordRefused(_) => one,
+        _ => whole,
+    }
+}
+
+fn subject_in(file: &[u8], what: u64, record: usize, opened: u64) -> Subject {
+    let message = stored_message(file, record);
+    Subject {
+        what,
+        number: record as u64,
+        further: opened,
+        whole: OF_FILE,
+        from: message.place as u64,
     }
 }

@@ -21,6 +21,12 @@ use wording::tell;
 
 const NOT_JUDGED: u64 = 2;
 
+// A verdict, as the templates choose by it, and the place where the rule is broken.
+struct Ruling {
+    verdict: u64,
+    place: u64,
+}
+
 // The sizes that a header states, of which bytes that are not there count as 0.
 struct Sizes {
     variable: usize,
@@ -49,47 +55,64 @@ pub fn judge_message(manner: Manner, message: &[u8]) -> Status {
 
 fn tell_rules(manner: Manner, message: &[u8], judging: Judging) -> Status {
     let sizes = sizes_in(message);
-    if tell_first_four(manner, message, judging).is_complaint() {
+    if tell_least_size(manner, message, judging).is_complaint() {
         return Status::Complained;
     }
-    if tell_sizes(manner, message, judging, sizes).is_complaint() {
+    if tell_bytes(manner, message, judging).is_complaint() {
+        return Status::Complained;
+    }
+    if tell_length(manner, message, judging, sizes).is_complaint() {
+        return Status::Complained;
+    }
+    if tell_addresses(manner, message, judging, sizes).is_complaint() {
         return Status::Complained;
     }
     tell_integrity(manner, message, judging, sizes)
 }
 
-// Each about one number.
-fn tell_first_four(manner: Manner, message: &[u8], judging: Judging) -> Status {
+fn tell_least_size(manner: Manner, message: &[u8], judging: Judging) -> Status {
     let least = judging.least;
-    let least = number_of(least);
+    let least = ruling_of(least);
+    tell(
+        manner,
+        Status::Done,
+        rows::RULE_OF_LEAST_SIZE,
+        &[least.verdict, least.place, message.len() as u64],
+        message,
+    )
+}
+
+// Rules 2, 3 and 4, each about one byte.
+fn tell_bytes(manner: Manner, message: &[u8], judging: Judging) -> Status {
     let version = judging.version;
-    let version = number_of(version);
+    let version = ruling_of(version);
     let flags = judging.flags;
-    let flags = number_of(flags);
+    let flags = ruling_of(flags);
     let variable_size = judging.variable_size;
-    let variable_size = number_of(variable_size);
+    let variable_size = ruling_of(variable_size);
     let length = message.len() as u64;
     let held = byte_at(message, Envelope::FLAGS_PLACE);
     tell(
         manner,
         Status::Done,
-        rows::RULES_OF_ONE_NUMBER,
+        rows::RULES_OF_ONE_BYTE,
         &[
-            least,
-            length,
-            version,
-            version / NOT_JUDGED,
+            version.verdict,
+            version.place,
+            version.verdict / NOT_JUDGED,
             byte_at(message, Envelope::VERSION_PLACE) as u64,
             Envelope::VERSION_PLACE as u64 + 1,
             length,
-            flags,
-            flags / NOT_JUDGED,
+            flags.verdict,
+            flags.place,
+            flags.verdict / NOT_JUDGED,
             held as u64,
             kind(held) as u64,
             Envelope::FLAGS_PLACE as u64 + 1,
             length,
-            variable_size,
-            variable_size / NOT_JUDGED,
+            variable_size.verdict,
+            variable_size.place,
+            variable_size.verdict / NOT_JUDGED,
             byte_at(message, Envelope::VARIABLE_SIZE_PLACE) as u64,
             Envelope::HEADER_SIZE as u64,
             length,
@@ -98,42 +121,63 @@ fn tell_first_four(manner: Manner, message: &[u8], judging: Judging) -> Status {
     )
 }
 
-// Rules 5 and 6 go by the sizes that the header states. An address is counted with its closing zero.
-fn tell_sizes(manner: Manner, message: &[u8], judging: Judging, sizes: Sizes) -> Status {
+// Rule 5 goes by the sizes that the header states.
+fn tell_length(manner: Manner, message: &[u8], judging: Judging, sizes: Sizes) -> Status {
     let length = judging.length;
-    let length = number_of(length);
-    let addresses = judging.addresses;
-    let addresses = number_of(addresses);
-    let needed = needed_for_addresses(sizes.variable);
-    let region = between(message, Envelope::ADDRESSES_PLACE, needed);
-    let source = with_zero(region);
-    let rest = between(region, source, region.len());
-    let destination = with_zero(rest);
-    let left = between(rest, destination, rest.len()).len() as u64;
+    let length = ruling_of(length);
     let has = message.len() as u64;
     tell(
         manner,
         Status::Done,
-        rows::RULES_OF_SIZES,
+        rows::RULE_OF_LENGTH,
         &[
-            length,
-            length / NOT_JUDGED,
+            length.verdict,
+            length.place,
+            length.verdict / NOT_JUDGED,
             sizes.variable as u64,
             sizes.data as u64,
             sizes.end as u64,
             has,
             Envelope::HEADER_SIZE as u64,
             has,
-            addresses,
-            addresses_found(addresses, source, destination, message.len() < needed),
-            source as u64,
+        ],
+        message,
+    )
+}
+
+// An address is counted with its closing zero.
+fn tell_addresses(manner: Manner, message: &[u8], judging: Judging, sizes: Sizes) -> Status {
+    let addresses = judging.addresses;
+    let addresses = ruling_of(addresses);
+    let needed = needed_for_addresses(sizes.variable);
+    let region = between(message, Envelope::ADDRESSES_PLACE, needed);
+    let source = with_zero(region);
+    let rest = between(region, source, region.len());
+    let destination = with_zero(rest);
+    let left = between(rest, destination, rest.len()).len() as u64;
+    let found = addresses_found(
+        addresses.verdict,
+        source,
+        destination,
+        message.len() < needed,
+    );
+    let source = source as u64;
+    tell(
+        manner,
+        Status::Done,
+        rows::RULE_OF_ADDRESSES,
+        &[
+            addresses.verdict,
+            addresses.place,
+            found,
+            source,
             destination as u64,
             left,
-            source as u64,
+            source,
             left,
             left,
             needed as u64,
-            has,
+            message.len() as u64,
         ],
         message,
     )
@@ -170,7 +214,7 @@ fn not_judged(too_few: bool) -> u64 {
 
 fn tell_integrity(manner: Manner, message: &[u8], judging: Judging, sizes: Sizes) -> Status {
     let integrity = judging.integrity;
-    let integrity = number_of(integrity);
+    let integrity = ruling_of(integrity);
     let kind = kind(byte_at(message, Envelope::FLAGS_PLACE));
     let is_crc = (kind == KIND_CRC) as u64;
     let place = sizes.field;
@@ -187,8 +231,9 @@ fn tell_integrity(manner: Manner, message: &[u8], judging: Judging, sizes: Sizes
         rows::RULE_OF_INTEGRITY,
         &[
             is_crc,
-            integrity,
-            field_found(integrity, is_crc),
+            integrity.verdict,
+            integrity.place,
+            field_found(integrity.verdict, is_crc),
             held as u64,
             kind as u64,
             held as u64,
@@ -208,12 +253,18 @@ fn field_found(verdict: u64, is_crc: u64) -> u64 {
     is_crc
 }
 
-// A verdict's place in the templates.
-fn number_of(verdict: Verdict) -> u64 {
+fn ruling_of(verdict: Verdict) -> Ruling {
     match verdict {
-        Verdict::Kept => 0,
-        Verdict::Broken => 1,
-        Verdict::NotJudged => NOT_JUDGED,
+        Verdict::Kept => ruled(0, 0),
+        Verdict::Broken(place) => ruled(1, place),
+        Verdict::NotJudged => ruled(NOT_JUDGED, 0),
+    }
+}
+
+fn ruled(verdict: u64, place: usize) -> Ruling {
+    Ruling {
+        verdict,
+        place: place as u64,
     }
 }
 

@@ -8,6 +8,7 @@ mod judging;
 mod lateness;
 mod making;
 mod reading;
+mod refusing;
 mod watching;
 
 use console::table::piece;
@@ -38,19 +39,19 @@ use wording::telling::complain;
 // One row for each command, in the order of the constants of `commands`: its form, what it does, and what it tells plainly.
 fn main() {
     status::tell(run(
-        b"list GOLDEN\tevery record: its type, number and length, or its refusal\tgood RECORD TYPE NUMBER LENGTH, or refused RECORD REFUSAL READING
-check GOLDEN\tthe count of records, or the first bad one\tgood COUNT, or refused RECORD REFUSAL READING
-find GOLDEN TYPE NUMBER\tthe first record of that type and number, and how many were opened\tfound RECORD OPENED, or refused RECORD OPENED REFUSAL READING
-compare GOLDEN RECORD RADIO\ta record beside the radio's message: same, or where the two differ\tsame LENGTH, or different TOTAL and then place PLACE GOLDEN RADIO FIELD for each place below 512, or refused REFUSAL READING
-read MESSAGE\tevery field of a message, or its refusal\taccepted LENGTH TYPE VERSION FLAGS DATA-LENGTH NUMBER TIME VARIABLE-SIZE TTL QOS SOURCE DESTINATION BODY-PLACE INTEGRITY KIND, or refused REFUSAL READING
-judge MESSAGE\tevery rule of reading by itself: kept, broken or not judged, with the numbers found; then what read says\trule RULE VERDICT for each rule, kept, broken or unjudged, and then accepted LENGTH, or refused REFUSAL READING
-late MESSAGE ENTRY CLOCK\twhether a message that entered the messaging infrastructure at second ENTRY is late at second CLOCK, and by how much\tin-time SECONDS, late SECONDS, no-clock REASON, which is absent without a variable header and zero with a time to live of 0, or refused REFUSAL READING
+        b"list GOLDEN\tevery record: its type, number and length, or its refusal\tgood RECORD TYPE NUMBER LENGTH, or refused RECORD REFUSAL READING PLACE FILE-PLACE
+check GOLDEN\tthe count of records, or the first bad one\tgood COUNT, or refused RECORD REFUSAL READING PLACE FILE-PLACE
+find GOLDEN TYPE NUMBER\tthe first record of that type and number, and how many were opened\tfound RECORD OPENED, or refused RECORD OPENED REFUSAL READING PLACE FILE-PLACE
+compare GOLDEN RECORD RADIO\ta record beside the radio's message: same, or where the two differ\tsame LENGTH, or different TOTAL and then place PLACE GOLDEN RADIO FIELD for each place below 512, or refused REFUSAL READING PLACE FILE-PLACE
+read MESSAGE\tevery field of a message, or its refusal, and its bytes with the place in brackets\taccepted LENGTH TYPE VERSION FLAGS DATA-LENGTH NUMBER TIME VARIABLE-SIZE TTL QOS SOURCE DESTINATION BODY-PLACE INTEGRITY KIND, or refused REFUSAL READING PLACE
+judge MESSAGE\tevery rule of reading by itself: kept, broken or not judged, with the numbers found; then what read says\trule RULE VERDICT PLACE for each rule, kept, broken or unjudged, and then accepted LENGTH, or refused REFUSAL READING PLACE
+late MESSAGE ENTRY CLOCK\twhether a message that entered the messaging infrastructure at second ENTRY is late at second CLOCK, and by how much\tin-time SECONDS, late SECONDS, no-clock REASON, which is absent without a variable header and zero with a time to live of 0, or refused REFUSAL READING PLACE
 sum FILE\tthe CRC of all bytes of a file\tsum CRC LENGTH
-make MESSAGE\tthe record of 512 bytes that holds a message, to standard output\tthe record, or on standard error refused REFUSAL READING
-unwrap FRAME\ta frame: what it is, its COMMIDs, and its message as read tells it; of a capture, which is frames end to end, a line for each, up to the first refused\tdata FRAME PLACE COMMID TYPE NUMBER LENGTH, acknowledgment FRAME PLACE COMMID ACKNOWLEDGED, or refused FRAME PLACE REFUSAL READING
-wrap COMMID MESSAGE\tthe data message, with that COMMID, that carries a message, to standard output\tthe frame, or on standard error refused REFUSAL READING
+make MESSAGE\tthe record of 512 bytes that holds a message, to standard output\tthe record, or on standard error refused REFUSAL READING PLACE
+unwrap FRAME\ta frame: what it is, its COMMIDs, and its message as read tells it; of a capture, which is frames end to end, a line for each, up to the first refused\tdata FRAME PLACE COMMID TYPE NUMBER LENGTH, acknowledgment FRAME PLACE COMMID ACKNOWLEDGED, or refused FRAME PLACE REFUSAL READING MESSAGE-PLACE FILE-PLACE
+wrap COMMID MESSAGE\tthe data message, with that COMMID, that carries a message, to standard output\tthe frame, or on standard error refused REFUSAL READING PLACE
 acknowledge COMMID ACKNOWLEDGED\tthe acknowledgment, with a COMMID of its own, of the COMMID ACKNOWLEDGED, to standard output\tthe frame
-watch [GOLDEN]\tevery message of standard input the moment its last byte is in, and the record of its type and number: same, or in how many places the two differ\tmessage MESSAGE TYPE NUMBER LENGTH DISTANCE RECORD DIFFERING, or refused MESSAGE BYTES REFUSAL READING; of a bad GOLDEN what check tells
+watch [GOLDEN]\tevery message of standard input the moment its last byte is in, and the record of its type and number: same, or in how many places the two differ\tmessage MESSAGE TYPE NUMBER LENGTH DISTANCE RECORD DIFFERING, or refused MESSAGE BYTES REFUSAL READING PLACE STREAM-PLACE; of a bad GOLDEN what check tells
 help [COMMAND]\tthis, or what a command does\tthe form of each command
 ",
         b"--plain\n-q\n--help\n-h\n--version\n--\n",

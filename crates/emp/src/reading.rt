@@ -1,10 +1,14 @@
-// Read: every field of a message by name, or the refusal.
-// Rests on `envelope`, which reads the message, tells the flags and splits the QoS.
+// Read: every field of a message by name, or the refusal, with the place among the message's bytes.
+// Rests on `envelope`, which reads the message, tells the flags and splits the QoS, and on `layout` for the field of a place.
 ghost use Prim.Native.Nat.{_≤_};
+use crate::comparing::mark_in;
+use crate::refusing::refuse_message;
 use envelope::Addressing;
 use envelope::Envelope;
+use envelope::Fault;
 use envelope::Header;
 use envelope::Integrity;
+use envelope::Numbers;
 use envelope::Part;
 use envelope::Reading;
 use envelope::Refusal;
@@ -14,10 +18,13 @@ use envelope::flags::kind;
 use envelope::flags::time_is_absolute;
 use envelope::qos::split;
 use envelope::read;
+use layout::layout_of;
 use wording::Manner;
 use wording::Status;
-use wording::refuse;
+use wording::refusals::ALONE;
 use wording::rows;
+use wording::sides::ADDRESSES;
+use wording::sides::show_marked;
 use wording::tell;
 
 // The bytes of a body that are shown.
@@ -26,13 +33,33 @@ const SHOWN: usize = 256;
 pub fn read_message(manner: Manner, message: &[u8]) -> Status {
     match read(message) {
         Reading::Accepted(accepted) => show_message(manner, accepted, message),
-        Reading::Refused(refusal) => refuse_reading(manner, refusal),
+        Reading::Refused(refusal) => show_refused(manner, refusal, message),
+    }
+}
+
+// In words the bytes come behind the refusal.
+fn show_refused(manner: Manner, refusal: Refusal, message: &[u8]) -> Status {
+    let told = refuse_reading(manner, refusal);
+    if told.is_complaint() {
+        return told;
+    }
+    match manner {
+        Manner::Words => { show_marked(message, refusal.place, mark_of(refusal, message)) }
+        _ => told,
+    }
+}
+
+// The field at the place; of rule 6 both addresses, for either may be the wrong one.
+fn mark_of(refusal: Refusal, message: &[u8]) -> u8 {
+    let fault = refusal.fault;
+    match fault {
+        Fault::BadAddresses => ADDRESSES,
+        _ => mark_in(layout_of(message), refusal.place),
     }
 }
 
 pub fn refuse_reading(manner: Manner, refusal: Refusal) -> Status {
-    let fault = refusal.fault;
-    refuse(manner, rows::REFUSED, &[fault.number() as u64, 0])
+    refuse_message(manner, ALONE, Numbers::by_reading(refusal))
 }
 
 // What reading handed out of a message; plainly, one line.

@@ -5,6 +5,7 @@ ghost use lib.ListN.{length};
 ghost use Rattle.emp.specs.Watching.{Onward};
 use crate::arrival::tell_message;
 use crate::golden_files::check_file;
+use crate::refusing::refuse_by;
 use feed::Feed;
 use feed::Found;
 use feed::Refusal;
@@ -15,10 +16,12 @@ use feed::held;
 use golden::Checking;
 use golden::check;
 use libc::STDIN_FILENO;
+use std::num::wrapping_sub_u64;
 use wording::Manner;
 use wording::Status;
-use wording::refuse;
-use wording::rows;
+use wording::refusals::MESSAGE;
+use wording::refusals::OF_STREAM;
+use wording::refusals::Subject;
 
 // How far a stream is: the feed without the bytes that it keeps, and what went by.
 pub struct Stream {
@@ -195,18 +198,17 @@ fn end(manner: Manner, stream: Stream) -> Status {
     }
 }
 
-// The message that is on its way is the one refused, by the last of the bytes so far.
+// The message that is on its way is the one refused, by the last of the bytes so far, of which so many are its own.
 fn refuse_message(manner: Manner, stream: Stream, refusal: Refusal) -> Status {
-    refuse(
-        manner,
-        rows::BAD_MESSAGE,
-        &[
-            more(stream.messages, 1),
-            stream.bytes,
-            refusal.number() as u64,
-            0,
-        ],
-    )
+    let bytes = stream.bytes;
+    let of = Subject {
+        what: MESSAGE,
+        number: more(stream.messages, 1),
+        further: bytes,
+        whole: OF_STREAM,
+        from: wrapping_sub_u64(bytes, stream.count as u64),
+    };
+    refuse_by(manner, of, refusal.numbers())
 }
 
 // A sum that stays at the largest number where it would go past it.

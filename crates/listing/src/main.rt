@@ -72,6 +72,7 @@ fn numbers(refusal: Refusal) {
     let numbers = refusal.numbers();
     number(numbers.number as u64);
     number(numbers.reading as u64);
+    number(numbers.place as u64);
 }
 
 // A space, and the number after it.

@@ -11,7 +11,6 @@ pub mod status;
 pub mod telling;
 
 pub use crate::refusals::refuse;
-pub use crate::refusals::refuse_to_make;
 pub use crate::status::Status;
 pub use crate::telling::Manner;
 pub use crate::telling::tell;

@@ -46,27 +46,17 @@ pub(crate) fn put_by(to: i32, status: Status, half: usize, numbers: &[u64], lent
         lent,
         b"message #: type #, number #, # byte*, {first|repeat|next|ahead #|behind #}{|, no record of that type and number|, record #, same|, record #, different in # place*|, record #, not compared}
 \0message\t#\t#\t#\t#\t{-|0|1|#|-#}\t{-\t-|-\t-|#\t0|#\t#|#\t-}
-\0message #, after # byte*: refused !
-\0refused\t#\t#\t#\t#
 \0# record*
 \0\0record #: type #, number #, # byte*
 \0good\t#\t#\t#\t#
-\0record #: refused !
-\0refused\t#\t#\t#
 \0good: # record*
 \0good\t#
-\0{|record #: }_refused !_
-\0refused\t{-|#}_\t#\t#_
 \0record # (# opened)
 \0found\t#\t#
-\0{|record #: }_refused ! (# opened)
-\0refused\t{-|#}\t#\t#\t#_
 \0same, # byte*
 \0same\t#
-\0refused !
-\0refused\t#\t#
-\0emp: refused !
-\0refused\t#\t#
+\0{|emp: ||record #: |message #, after # byte*: |frame #, at place #: |_|record #: _}refused !{|, at place #}{|| of the message, place # of the file| of the message, place # of the stream}{|, where the message ends|, the header version|, the flags|, the variable header size|, the data length|, the addresses|, the integrity field}{|||||| (# opened)| (# opened)}
+\0refused{||\t-|\t#|\t#\t#|\t#\t#|\t-\t#|\t#\t#}\t#\t#_\t#{|\t-|\t#|\t#}
 \0accepted, # byte*
 header version        #
 message type          #
@@ -96,20 +86,20 @@ integrity             $ (hex), {none|the CRC of all bytes before it|the applicat
 \0\t_#____\t$\t#
 \0accepted, # byte*
 \0accepted\t#
-\0rule 1, the message has at least 21 bytes: {kept|broken}, it has #
-rule 2, the header version is 4: {kept|broken|not judged}, {it is #|it needs at least # byte*, the message has #}
-rule 3, no unassigned flag (bits 5 to 7) is set and the integrity kind is not 3: {kept|broken|not judged}, {flags & (hex), kind #|it needs at least # byte*, the message has #}
-rule 4, the variable header size (V) is 0, or 6 to 132: {kept|broken|not judged}, {V is #|it needs at least # byte*, the message has #}
-\0rule\t1\t{kept|broken}_
-rule\t2\t{kept|broken|unjudged}____
-rule\t3\t{kept|broken|unjudged}_____
-rule\t4\t{kept|broken|unjudged}____
-\0rule 5, 17 + V + the data length + 4 is the length of the message: {kept|broken|not judged}, {17 + # + # + 4 is #, it has #|it needs at least # byte*, the message has #}
-rule 6, bytes 21 to 16 + V are two addresses, each at most 64 bytes with its zero: {kept|broken|not judged}, {source # byte*, destination # byte*, # left over|source # byte*, destination without a zero, # left over|source without a zero, destination without a zero, # left over|it needs at least # byte*, the message has #|it is for V from 6 to 132 alone}
-\0rule\t5\t{kept|broken|unjudged}_______
-rule\t6\t{kept|broken|unjudged}_________
-\0rule 7, the integrity field is {zero where the kind is 0|the CRC, the kind being 1}: {kept|broken|not judged}, {the field says $, the kind is #|the field says $, division gives $|it needs at least # byte*, the message has #}
-\0rule\t7\t_{kept|broken|unjudged}_______
+\0rule 1, the message has at least 21 bytes: {kept|broken at place #}, it has #
+\0rule\t1\t{kept\t-|broken\t#}_
+\0rule 2, the header version is 4: {kept|broken at place #|not judged}, {it is #|it needs at least # byte*, the message has #}
+rule 3, no unassigned flag (bits 5 to 7) is set and the integrity kind is not 3: {kept|broken at place #|not judged}, {flags & (hex), kind #|it needs at least # byte*, the message has #}
+rule 4, the variable header size (V) is 0, or 6 to 132: {kept|broken at place #|not judged}, {V is #|it needs at least # byte*, the message has #}
+\0rule\t2\t{kept\t-|broken\t#|unjudged\t-}____
+rule\t3\t{kept\t-|broken\t#|unjudged\t-}_____
+rule\t4\t{kept\t-|broken\t#|unjudged\t-}____
+\0rule 5, 17 + V + the data length + 4 is the length of the message: {kept|broken at place #|not judged}, {17 + # + # + 4 is #, it has #|it needs at least # byte*, the message has #}
+\0rule\t5\t{kept\t-|broken\t#|unjudged\t-}_______
+\0rule 6, bytes 21 to 16 + V are two addresses, each at most 64 bytes with its zero: {kept|broken at place #|not judged}, {source # byte*, destination # byte*, # left over|source # byte*, destination without a zero, # left over|source without a zero, destination without a zero, # left over|it needs at least # byte*, the message has #|it is for V from 6 to 132 alone}
+\0rule\t6\t{kept\t-|broken\t#|unjudged\t-}_________
+\0rule 7, the integrity field is {zero where the kind is 0|the CRC, the kind being 1}: {kept|broken at place #|not judged}, {the field says $, the kind is #|the field says $, division gives $|it needs at least # byte*, the message has #}
+\0rule\t7\t_{kept\t-|broken\t#|unjudged\t-}_______
 \0{in time, # second* left|late, # second* past|no clock, there is no variable header|no clock, the time to live is 0|in time, ## seconds left}{|; the clock is before the entry}
 \0{in-time\t#|late\t#|no-clock\tabsent|no-clock\tzero|in-time\t##}_
 \0$  # byte*
@@ -119,8 +109,6 @@ rule\t6\t{kept|broken|unjudged}_________
 \0data\t#\t#\t#\t#\t#\t#
 \0{|frame #_: }acknowledgment, COMMID #, of COMMID #
 \0_acknowledgment\t#\t#\t#\t#
-\0frame #, at place #: refused !
-\0refused\t#\t#\t#\t#
 \0emp 1.0, {by a kit that is not known|proved by ^}
 \0version\t1.0\t{-|^}
 \0~\0\0emp ~
@@ -130,9 +118,10 @@ rule\t6\t{kept|broken|unjudged}_________
 \0different in # place*
 place   golden                            radio                           differs in
 \0different\t#
-\0{    |   |  }#  { & |[&]|[--]|    }{ & |[&]|[--]|    }{ & |[&]|[--]|    }{ & |[&]|[--]|    }{ & |[&]|[--]|    }{ & |[&]|[--]|    }{ & |[&]|[--]|    }{ & |[&]|[--]|    }  { & |[&]|[--]|    }{ & |[&]|[--]|    }{ & |[&]|[--]|    }{ & |[&]|[--]|    }{ & |[&]|[--]|    }{ & |[&]|[--]|    }{ & |[&]|[--]|    }{ & |[&]|[--]|    }{| header version|, header version}{| message type|, message type}{| message version|, message version}{| flags|, flags}{| data length|, data length}{| message number|, message number}{| message time|, message time}{| variable header size|, variable header size}{| time to live|, time to live}{| QoS|, QoS}{| source|, source}{| destination|, destination}{| body|, body}{| integrity|, integrity}
-\0\0\0place\t#\t{-|&}\t{-|&}\t{header version|message type|message version|flags|data length|message number|message time|variable header size|time to live|QoS|source|destination|body|integrity}
-\0... # more row*, # more differing place*
+\0place   message                           field
+\0\0{    |   |  | |}#  { & |[&]|[--]|    }{ & |[&]|[--]|    }{ & |[&]|[--]|    }{ & |[&]|[--]|    }{ & |[&]|[--]|    }{ & |[&]|[--]|    }{ & |[&]|[--]|    }{ & |[&]|[--]|    }  { & |[&]|[--]|    }{ & |[&]|[--]|    }{ & |[&]|[--]|    }{ & |[&]|[--]|    }{ & |[&]|[--]|    }{ & |[&]|[--]|    }{ & |[&]|[--]|    }{ & |[&]|[--]|    }{| header version|, header version}{| message type|, message type}{| message version|, message version}{| flags|, flags}{| data length|, data length}{| message number|, message number}{| message time|, message time}{| variable header size|, variable header size}{| time to live|, time to live}{| QoS|, QoS}{| source|, source}{| destination|, destination}{| body|, body}{| integrity|, integrity}{| addresses|, addresses}
+\0\0\0place\t#\t{-|&}\t{-|&}\t{|header version|message type|message version|flags|data length|message number|message time|variable header size|time to live|QoS|source|destination|body|integrity}
+\0... # more row*{|, # more differing place*}
 \0\0emp: no command was given; emp help tells what there is\0
 \0emp: '^' is no command; \0the nearest is ^, and emp help has all
 \0emp: '^' is no option; \0the nearest is ^, and emp help has all

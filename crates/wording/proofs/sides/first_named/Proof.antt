@@ -5,10 +5,10 @@ use Rattle.wording.proofs.sides.first_named.Statement.{statement}
 use Rattle.wording.proofs.sides.first_named.Tie as tie
 
 abbrev Inv-loop : tie.InvT-loop
-Inv-loop places orders row order₀ order = order ≤ 14
+Inv-loop marks order₀ order = order ≤ 15
 
 abbrev μ-loop : tie.MeasureT-loop
-μ-loop places orders row order₀ order = 14 - order
+μ-loop marks order₀ order = 15 - order
 
 loop-holds : tie.Need-loop-holds Inv-loop μ-loop
 loop-holds c = search needs

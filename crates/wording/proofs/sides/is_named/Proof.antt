@@ -1,23 +1,24 @@
 -- `sides::is_named`: stays inside, and ends.
 use borrow.Author.Needs.{needs}
-use Prim.Native.Nat.{_-_}
+use Prim.Native.Nat.{_-_, _≤_}
+use lib.ListN.{length}
 use Rattle.wording.proofs.sides.is_named.Statement.{statement}
 use Rattle.wording.proofs.sides.is_named.Tie as tie
 
 abbrev Inv-loop : tie.InvT-loop
-Inv-loop places orders row order column₀ column = Unit {0}
+Inv-loop marks order column₀ column = column ≤ length marks
 
 abbrev μ-loop : tie.MeasureT-loop
-μ-loop places orders row order column₀ column = 8 - column
+μ-loop marks order column₀ column = length marks - column
 
 loop-holds : tie.Need-loop-holds Inv-loop μ-loop
-loop-holds c = tt
+loop-holds c = search needs
 
-wrapping-add-usize-requires : tie.Need-wrapping-add-usize-requires Inv-loop μ-loop
-wrapping-add-usize-requires c κs = search needs
+shared-slice-read-is-mark-of : tie.Need-shared-slice-read-is-mark-of Inv-loop μ-loop
+shared-slice-read-is-mark-of c = search needs
 
-differs-in-requires : tie.Need-differs-in-requires Inv-loop μ-loop
-differs-in-requires c κs = search needs
+is-mark-of-requires : tie.Need-is-mark-of-requires Inv-loop μ-loop
+is-mark-of-requires c κs = search needs
 
 returns : tie.Need-returns Inv-loop μ-loop
 returns c = search needs
@@ -29,7 +30,7 @@ loop-less : tie.Need-loop-less Inv-loop μ-loop
 loop-less c = search needs
 
 loop-again : tie.Need-loop-again Inv-loop μ-loop
-loop-again c = tt
+loop-again c = search needs
 
 returns-2 : tie.Need-returns-2 Inv-loop μ-loop
 returns-2 c = search needs
@@ -41,8 +42,8 @@ is-named-spec =
     Inv-loop
     μ-loop
     loop-holds
-    wrapping-add-usize-requires
-    differs-in-requires
+    shared-slice-read-is-mark-of
+    is-mark-of-requires
     returns
     add-column
     loop-less

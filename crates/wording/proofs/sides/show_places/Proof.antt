@@ -1,23 +1,21 @@
 -- `sides::show_places`: stays inside, and ends.
 use borrow.Author.Needs.{needs}
 use Prim.Native.Nat.{_-_, _≤_}
+use lib.ListN.{length}
 use Rattle.wording.proofs.sides.show_places.Statement.{statement}
 use Rattle.wording.proofs.sides.show_places.Tie as tie
 
 abbrev Inv-loop : tie.InvT-loop
-Inv-loop golden radio places orders i₀ i = i ≤ 512
+Inv-loop golden radio marks place₀ place = place ≤ length marks
 
 abbrev μ-loop : tie.MeasureT-loop
-μ-loop golden radio places orders i₀ i = 512 - i
+μ-loop golden radio marks place₀ place = length marks - place
 
 loop-holds : tie.Need-loop-holds Inv-loop μ-loop
 loop-holds c = search needs
 
-mul-show-place : tie.Need-mul-show-place Inv-loop μ-loop
-mul-show-place c = search needs
-
-element-copy-out-show-place : tie.Need-element-copy-out-show-place Inv-loop μ-loop
-element-copy-out-show-place c = search needs
+shared-slice-read-show-place : tie.Need-shared-slice-read-show-place Inv-loop μ-loop
+shared-slice-read-show-place c = search needs
 
 show-place-requires : tie.Need-show-place-requires Inv-loop μ-loop
 show-place-requires c κs = search needs
@@ -28,8 +26,8 @@ is-complaint-requires c κs = search needs
 returns : tie.Need-returns Inv-loop μ-loop
 returns c = search needs
 
-add-i : tie.Need-add-i Inv-loop μ-loop
-add-i c = search needs
+add-place : tie.Need-add-place Inv-loop μ-loop
+add-place c = search needs
 
 loop-less : tie.Need-loop-less Inv-loop μ-loop
 loop-less c = search needs
@@ -47,12 +45,11 @@ show-places-spec =
     Inv-loop
     μ-loop
     loop-holds
-    mul-show-place
-    element-copy-out-show-place
+    shared-slice-read-show-place
     show-place-requires
     is-complaint-requires
     returns
-    add-i
+    add-place
     loop-less
     loop-again
     returns-2)

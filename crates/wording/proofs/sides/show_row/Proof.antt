@@ -7,16 +7,16 @@ use Rattle.wording.proofs.sides.show_row.Statement.{statement}
 use Rattle.wording.proofs.sides.show_row.Tie as tie
 
 abbrev Inv-loop : tie.InvT-loop
-Inv-loop golden radio places orders place first numbers₀ k₀ numbers k = length numbers ≡ 64
+Inv-loop golden radio marks row alone first numbers₀ k₀ numbers k = length numbers ≡ 65
 
 abbrev μ-loop : tie.MeasureT-loop
-μ-loop golden radio places orders place first numbers₀ k₀ numbers k = 64 - k
-
-returns : tie.Need-returns Inv-loop μ-loop
-returns c = search needs
+μ-loop golden radio marks row alone first numbers₀ k₀ numbers k = 65 - k
 
 first-named-requires : tie.Need-first-named-requires Inv-loop μ-loop
 first-named-requires c κs = search needs
+
+returns : tie.Need-returns Inv-loop μ-loop
+returns c = search needs
 
 loop-holds : tie.Need-loop-holds Inv-loop μ-loop
 loop-holds c = search needs
@@ -54,8 +54,8 @@ show-row-spec =
     (tie.spec
     Inv-loop
     μ-loop
-    returns
     first-named-requires
+    returns
     loop-holds
     number-of-requires
     mul-numbers
