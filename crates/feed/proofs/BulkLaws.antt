@@ -5,6 +5,7 @@ use mathlib.Core.Logic.{_⊎_, inl, inr}
 use mathlib.Core.Path.{_≡_, refl, ap, ap₂, sym, _∙_}
 use Prim.Native.Nat.{ℕ, _≤_, _<_, _+_, _-_}
 use native.Mathlib.Omega.{arith}
+use native.Mathlib.Nat.{eq-or-lt-of-le}
 use lib.ListN.{length, take, drop, take-append-drop}
 use lib.Seq.{sets, length-take-le, length-sets, drop-length}
 use Rattle.envelope.proofs.AnnouncingLaws.{announces-says}
@@ -41,7 +42,7 @@ settled-closes : (a : Answer) (k : List ℕ) (n used : ℕ) (later : FeedOutcome
 settled-closes (accepted f) k n used later = refl
 settled-closes (refusedMessage r) k n used later = refl
 
-pub whole-at : (k : List ℕ) (n used : ℕ) (rest : List ℕ) (w : ℕ) → announcing (take n k) ≡ announces w → w ≤ room → w ≤ n → n ≤ length k
+whole-at : (k : List ℕ) (n used : ℕ) (rest : List ℕ) (w : ℕ) → announcing (take n k) ≡ announces w → w ≤ room → w ≤ n → n ≤ length k
     → closing (settled (reading (take n k))) k n used ≡ outcomeAt k n used rest
 whole-at k n used rest w e hw h b =
     let long : w ≤ length (take n k) = omega (arith, length-take-le n k b) in
@@ -107,7 +108,7 @@ fill-short k (x ∷ l) n w used ok hw h =
     ∙ sym (outcome-by k n used rest more (short-front k n w ok hw (omega arith)))
 
 -- it does
-pub fill-whole : (k rest : List ℕ) (n w used : ℕ) → Known w k n → w ≤ room → n < w → w - n ≤ length rest
+fill-whole : (k rest : List ℕ) (n w used : ℕ) → Known w k n → w ≤ room → n < w → w - n ≤ length rest
     → closing (settled (reading (take w (sets k n (take (w - n) rest))))) (sets k n (take (w - n) rest)) w (used + (w - n)) ≡ outcomeAt k n used rest
 fill-whole k rest n w used ok hw h b =
     let part = take (w - n) rest in
@@ -123,6 +124,27 @@ fill-whole k rest n w used ok hw h b =
     ∙ ap₂ (λ (m u : ℕ). outcomeAt g m u left) end size in
     ap (furtherBy nothing (closing more k n used)) (whole-at g w (w - n) left w says hw (omega arith) (omega (arith, length-sets k n part, ok .roomy)) ∙ sym taken)
     ∙ sym (outcome-by k n used rest more (short-front k n w ok hw h))
+
+-- it does, or nothing is missing: d bytes more
+pub fill-all : (k rest : List ℕ) (n w d used : ℕ) → Known w k n → w ≤ room → n ≤ length k → d ≡ w - n → d ≤ length rest
+    → closing (settled (reading (take (n + d) (sets k n (take d rest))))) (sets k n (take d rest)) (n + d) (used + d) ≡ outcomeAt k n used rest
+fill-all k rest n w d used ok hw fits h b = go (eq-or-lt-of-le (omega arith))
+  where
+    at : ℕ → ℕ → ℕ → FeedOutcome
+    at x m u = closing (settled (reading (take m (sets k n (take x rest))))) (sets k n (take x rest)) m u
+
+    go : (0 ≡ d) ⊎ (0 < d) → at d (n + d) (used + d) ≡ outcomeAt k n used rest
+    go (inl e) =
+        let here : n + d ≡ n = omega arith in
+        let now : used + d ≡ used = omega arith in
+        ap₂ (λ (m u : ℕ). at d m u) here now
+        ∙ ap (λ (x : ℕ). at x n used) (sym e)
+        ∙ whole-at k n used rest w (ok .says) hw (omega arith) fits
+    go (inr e) =
+        let end : n + d ≡ w = omega arith in
+        ap (λ (m : ℕ). at d m (used + d)) end
+        ∙ ap (λ (x : ℕ). at x w (used + x)) h
+        ∙ fill-whole k rest n w used ok hw (omega arith) (omega arith)
 
 -- ---- past the heading
 

@@ -1,7 +1,7 @@
 // From the heading to the announced length: bytes go in, and when all are in, reading judges them.
 // Once for each message, so that whoever is handed a message need not read it again.
 ghost use mathlib.Core.Path.{_≡_};
-ghost use Prim.Native.Nat.{_+_, _≤_};
+ghost use Prim.Native.Nat.{_+_, _-_, _≤_};
 ghost use lib.ListN.{length};
 ghost use Rattle.envelope.specs.Reading.{reading};
 ghost use Rattle.feed.specs.Helpers.{laidIn, outcomeAt, Announced, toldBeside, beside};
@@ -21,16 +21,23 @@ pub(crate) fn fill(kept: &mut [u8], count: usize, whole: usize, used: usize, res
     requires { ⌜ (length (now kept) ≡ room) × Announced (now kept) count whole used ⌝ }
     ensures { λ r. ⌜ toldStep r (now (kept .exit)) ≡ outcomeAt (now (kept .entry)) count used (now (rest .entry)) ⌝ }
 {
-    if whole <= count {
-        return finish(&kept[..count], used);
-    }
-    let wanted = whole - count;
+    let wanted = due(count, whole);
     if rest.len() < wanted {
         lay(kept, count, rest);
         return wait(count + rest.len(), used + rest.len());
     }
     lay(kept, count, &rest[..wanted]);
-    finish(&kept[..whole], used + wanted)
+    finish(&kept[..count + wanted], used + wanted)
+}
+
+// How many bytes are missing: none where all that was announced is in.
+fn due(count: usize, whole: usize) -> usize
+    ensures { λ r. ⌜ r ≡ whole - count ⌝ }
+{
+    if whole <= count {
+        return 0;
+    }
+    whole - count
 }
 
 // All that was announced is in.
