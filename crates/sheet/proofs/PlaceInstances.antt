@@ -5,7 +5,7 @@ use mathlib.Core.List.{List, [], _∷_, _++_}
 use Prim.Native.Nat.{ℕ, _≤_}
 use lib.ListN.{length, take, set}
 use Rattle.sum.proofs.Computed.{literals}
-use Rattle.envelope.specs.Fields.{Refusal, refused, refusalBy, partOf}
+use Rattle.envelope.specs.Fields.{refused, refusalBy, partOf}
 use Rattle.envelope.specs.Layout.{largestMessage}
 use Rattle.envelope.specs.Places.{PlaceOf, PointsInside, placeFor}
 use Rattle.envelope.specs.Reading.{reading}
@@ -30,7 +30,7 @@ use Rattle.sheet.specs.Cases.{M}
 use Rattle.sheet.specs.FeedCases.{damagedC}
 use Rattle.sheet.specs.FrameCases.{held, carrier}
 use Rattle.sheet.proofs.Cases.{starred}
-use Rattle.sheet.proofs.FeedInstances.{otherVersion, refusedIn, takes-refused, damagedIn, cameOfDamaged, run-damaged}
+use Rattle.sheet.proofs.FeedInstances.{otherVersion, refusedIn, takes-refused, cameOfDamaged, run-damaged}
 use Rattle.sheet.proofs.Feeding.{storage-keeps-the-state}
 use Rattle.sheet.proofs.FrameCases.{unwrap-cases, wrap-cases}
 use Rattle.sheet.proofs.OneFeed.{newFeed, is-new}
