@@ -45,8 +45,8 @@ static inline unsigned morlewen_count(uint64_t answer) { return (unsigned)(answe
 static inline uint32_t morlewen_value(uint64_t answer) { return (uint32_t)(answer >> 32); }
 
 /* The refusals. Where several apply to one message, record or frame, the one that stands first here is given, but by a feed the
- * one that its bytes settle first. Of the records that a call opens the first bad one decides: morlewen_check opens all,
- * morlewen_find stops at a match, and the others open the one that they are asked for. */
+ * one that its bytes settle first. Records are opened from the first, and the first that is refused decides: morlewen_check goes
+ * on to the last, morlewen_find stops at a match, and the others open the one that they are asked for. */
 enum {
     MORLEWEN_DONE = 0,
     /* reading a message; each has a place */
@@ -69,6 +69,7 @@ enum {
     MORLEWEN_BAD_LENGTH = 23,            /* the stored length is below 21 or above 510 */
     MORLEWEN_NOT_CLEAR = 24,             /* a byte after the message is not zero */
     MORLEWEN_RECORD_REFUSED = 25,        /* reading refuses the record's message; `reading` says why, `value` where */
+    MORLEWEN_NAME_TAKEN = 26,            /* the record is good, and an earlier one has its type and number; morlewen_check alone gives it */
     MORLEWEN_NOT_FOUND = 27,             /* every record is good, and none has that type and number */
     MORLEWEN_RADIO_REFUSED = 31,         /* reading refuses the radio's message; `reading` says why, `value` where */
     /* 32 is not used again: of two messages that reading accepts neither is a proper beginning of the other */
@@ -212,8 +213,9 @@ uint64_t morlewen_judge_places(const uint8_t *bytes, size_t length, uint8_t verd
 /* How many records there are, good or bad. Done: `count`. Refused: 21. */
 uint64_t morlewen_records(const uint8_t *file, size_t length);
 
-/* Checks every record. Done: all are good, and `count` is how many. Refused: 21 or 23 to 25 for the first bad record,
- * whose number is in `count` (0 with 21). */
+/* Checks every record, one after the other. Done: all are good, no two have one type and message number, and `count` is how many.
+ * Refused: 21, or 23 to 26 for the first record that is bad or has the type and number of an earlier one; its number is in
+ * `count` (0 with 21). With 26 morlewen_find of that type and number gives the earlier one. */
 uint64_t morlewen_check(const uint8_t *file, size_t length);
 
 /* Opens records from the first, until one is bad or has this type and message number. `count` is how many were opened,

@@ -23,7 +23,7 @@ use Rattle.golden.specs.Checking.{counted, checking}
 use Rattle.golden.specs.File.{countOf, recordAt}
 use Rattle.golden.specs.Record.{recordSize, headSize, messageRoom, storedLength, messageOf}
 use Rattle.golden.specs.Theorems.{GoodAt, GoldenDemand3, SameButMessage, GoldenTwoBits, GoldenThreeBitsAnywhere, GoldenAnyWindow, GoldenMiddleWindow}
-use Rattle.golden.proofs.CheckedLaws.{checked-are-good}
+use Rattle.golden.proofs.CheckedLaws.{checked-are-sound}
 use Rattle.golden.proofs.FileLaws.{record-byte, message-byte, same-stored, good-at}
 use Rattle.golden.proofs.RecordLaws.{Good, message-long}
 
@@ -116,16 +116,16 @@ module _ (f g : List ℕ) (r lo hi : ℕ) (lf : r < countOf f) (lg : r < countOf
 module _ (f g : List ℕ) (n m r lo hi : ℕ) (bf : Bytes f) (bg : Bytes g) (cf : checking f ≡ counted n) (cg : checking g ≡ counted m) (l : r < n)
     (e : length f ≡ length g) (starts : r * recordSize + headSize ≤ lo) (same : SameBut lo hi f g) where
   in-f : r < countOf f
-  in-f = omega (arith, checked-are-good f n cf .count)
+  in-f = omega (arith, checked-are-sound f n cf .count)
 
   in-g : r < countOf g
   in-g = rw (← (ap (λ (x : ℕ). x / recordSize) e)) in-f
 
   good-f : GoodAt f r
-  good-f = checked-are-good f n cf .records r l
+  good-f = checked-are-sound f n cf .sound .records r l
 
   good-g : GoodAt g r
-  good-g = checked-are-good g m cg .records r (omega (arith, in-g, checked-are-good g m cg .count))
+  good-g = checked-are-sound g m cg .sound .records r (omega (arith, in-g, checked-are-sound g m cg .count))
 
   lengths : length (messageOf (recordAt f r)) ≡ length (messageOf (recordAt g r))
   lengths =

@@ -23,8 +23,8 @@ use Rattle.golden.specs.Listing.{counting}
 use Rattle.golden.specs.Listing as listing
 use Rattle.golden.specs.Record.{headSize, messageRoom, storedLength, messageOf, Judged, good, bad}
 use Rattle.golden.specs.Stepping.{StepAnswer, stepOf, stepAt, nextAfter}
-use Rattle.golden.specs.Theorems.{FirstBad, not-a-file, bad-record, FindReason, no-file, first-bad, first-named, none-named, checkedNumber, CheckNamesFew, countedNumber, CountIsFew, openedNumber, foundNumber, FindOpensFew, reachedSize, StepReachesShort, StepGoesOnByOne, differenceTotal, CompareTotalsFew}
-use Rattle.golden.proofs.CheckedLaws.{checked-are-good, check-names-the-first}
+use Rattle.golden.specs.Theorems.{FirstBad, not-a-file, bad-record, repeated, FindReason, no-file, first-bad, first-named, none-named, checkedNumber, CheckNamesFew, countedNumber, CountIsFew, openedNumber, foundNumber, FindOpensFew, reachedSize, StepReachesShort, StepGoesOnByOne, differenceTotal, CompareTotalsFew}
+use Rattle.golden.proofs.CheckedLaws.{checked-are-sound, check-names-the-first}
 use Rattle.golden.proofs.ComparingLaws.{longer-below}
 use Rattle.golden.proofs.FileLaws.{whole-file}
 use Rattle.golden.proofs.FoundLaws.{find-gives-its-reason}
@@ -39,9 +39,10 @@ check-names-few f = by (checking f) refl
     at : (n : ℕ) (r : Refused) → FirstBad f n r → n ≤ mostRecords
     at _ _ (not-a-file h) = omega arith
     at n r (bad-record _ _ h l j before) = omega (arith, whole-file f h .few)
+    at _ _ (repeated i n h l g b p before) = omega (arith, whole-file f h .few)
 
     by : (a : CheckAnswer) → checking f ≡ a → checkedNumber a ≤ mostRecords
-    by (check.counted n) e = let a = checked-are-good f n e in omega (arith, a .count, whole-file f (a .whole) .few)
+    by (check.counted n) e = let a = checked-are-sound f n e in omega (arith, a .count, whole-file f (a .whole) .few)
     by (check.refused n r) e = at n r (check-names-the-first f n r e)
 
 pub count-is-few : CountIsFew

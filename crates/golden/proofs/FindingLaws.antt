@@ -2,18 +2,22 @@
 -- `n` is the record at hand, and `count - n` are left with it.
 use mathlib.Core.Bool.{Bool, true, false, cond}
 use mathlib.Core.List.{List}
-use mathlib.Core.Path.{_≡_, refl, ap, sym}
+use mathlib.Core.Path.{_≡_, refl, ap, sym, _∙_}
 use Prim.Native.Nat.{ℕ, suc, _+_, _-_, _≤_, _<_}
 use native.Mathlib.Omega.{arith}
 use Rattle.envelope.specs.Fields.{Fields}
 use Rattle.envelope.specs.Refusals.{Refused, plainly}
-use Rattle.golden.specs.Checking.{CheckAnswer, counted, unlessBad, checkFrom, checking}
+use Rattle.golden.specs.Checking.{CheckAnswer, counted, repeats, unlessBad, checkFrom, checking}
 use Rattle.golden.specs.Checking as check
 use Rattle.golden.specs.File.{badFile, countOf, recordAt, judgedAt}
-use Rattle.golden.specs.Finding.{NameFields, hasName, FindAnswer, decides, findFrom, finding}
+use Rattle.golden.specs.Finding.{NameFields, hasName, nameOf, FindAnswer, decides, findFrom, finding}
 use Rattle.golden.specs.Finding as find
-use Rattle.golden.specs.Helpers.{holding, bad, openedAs, opening, Sight, sought, other, seenAs}
+use Rattle.golden.specs.Helpers.{holding, bad, openedAs, opening, Sight, sought, other, seenAs, isWritten, writtenBefore}
+use Rattle.golden.specs.Pairing.{pairs}
 use Rattle.golden.specs.Record.{storedLength, Judged, good, bad, judging}
+use Rattle.golden.specs.Theorems.{GoodAt}
+use Rattle.golden.proofs.NameLaws.{named-by-bytes}
+use Rattle.golden.proofs.PairingLaws.{below-same}
 
 -- ---- what opening a record says of its judgement
 
@@ -48,12 +52,20 @@ module _ (f : List ℕ) where
   pub check-start : (count : ℕ) → checkFrom f 0 count ≡ checkFrom f 0 (count - 0)
   check-start count = ap (checkFrom f 0) (omega arith)
 
-  pub check-on : (n count : ℕ) → n < count → (j : Judged) → judgedAt f n ≡ j
-      → checkFrom f n (count - n) ≡ unlessBad n j (checkFrom f (n + 1) (count - (n + 1)))
+  pub check-on : (n count : ℕ) → n < count → (b : Bool) → repeats f n ≡ b → (j : Judged) → judgedAt f n ≡ j
+      → checkFrom f n (count - n) ≡ unlessBad n b j (checkFrom f (n + 1) (count - (n + 1)))
   unfolding checkFrom
-  check-on n count h j e =
+  check-on n count h b q j e =
       let k : count - n ≡ suc (count - (n + 1)) = omega arith in
-      rw (k, e)
+      rw (k, e, q)
+
+  -- 26 by the bytes of type and number, behind records that are good
+  pub repeats-by-bytes : (n : ℕ) (fields : Fields) → judgedAt f n ≡ good fields → ((k : ℕ) → k < n → GoodAt f k)
+      → repeats f n ≡ writtenBefore f (nameOf fields) n
+  unfolding repeats
+  repeats-by-bytes n fields e before =
+      below-same (λ k. pairs (judgedAt f n) (judgedAt f k)) (λ k. isWritten (nameOf fields) (recordAt f k)) n
+      (λ k l. ap (λ (j : Judged). pairs j (judgedAt f k)) e ∙ named-by-bytes f (nameOf fields) k (before k l))
 
   pub check-end : (n count : ℕ) → count ≤ n → checkFrom f n (count - n) ≡ counted n
   unfolding checkFrom

@@ -1,33 +1,17 @@
 -- Find gives its reason in any file, and each reason settles its answer: induction on the records that are left.
--- And what a name says of the fields that have it.
 use mathlib.Core.Bool.{Bool, true, false, cond}
 use mathlib.Core.List.{List, [], _∷_}
 use mathlib.Core.Path.{_≡_, refl, ap, sym, _∙_, subst}
 use Prim.Native.Nat.{ℕ, zero, suc, _+_, _-_, _≤_, _<_}
 use native.Mathlib.Omega.{arith}
-use borrow.Author.Tests.{eqb-true, eq-eqb}
-use lib.Dec.{eqb}
-use Rattle.envelope.proofs.BoolLaws.{both, true-is-not-false}
+use Rattle.envelope.proofs.BoolLaws.{true-is-not-false}
 use Rattle.envelope.specs.Fields.{Fields}
 use Rattle.envelope.specs.Refusals.{Refused, plainly, numbersOf, Gives}
 use Rattle.golden.specs.File.{badFile, countOf, judgedAt}
-use Rattle.golden.specs.Finding.{NameFields, hasName, nameOf, FindAnswer, found, refused, decides, findFrom, finding}
+use Rattle.golden.specs.Finding.{NameFields, hasName, FindAnswer, found, refused, decides, findFrom, finding}
 use Rattle.golden.specs.Record.{Judged, good, bad}
 use Rattle.golden.specs.Theorems.{NotNamed, FindReason, no-file, first-bad, first-named, none-named, FindGivesItsReason, ReasonSettlesFind}
 use Rattle.golden.proofs.FileLaws.{one-more, bad-gives}
-
--- ---- names
-
-pub has-its-own-name : (f : Fields) → hasName (nameOf f) f ≡ true
-has-its-own-name f = rw (eq-eqb (f .header .messageType) (f .header .messageType) refl, eq-eqb (f .header .number) (f .header .number) refl)
-
-pub named-so : (name : NameFields) (f : Fields) → hasName name f ≡ true → nameOf f ≡ name
-named-so name f e =
-    let p = both (eqb (f .header .messageType) (name .messageType)) (eqb (f .header .number) (name .number)) e in
-    λ i. record {
-      messageType = eqb-true (f .header .messageType) (name .messageType) (p .0) i;
-      number = eqb-true (f .header .number) (name .number) (p .1) i;
-    }
 
 -- ---- the reason
 

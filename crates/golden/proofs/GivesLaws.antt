@@ -39,17 +39,18 @@ count-gives f r e = subst InCount e (go (badFile f))
 
 abbrev InCheck : check.CheckAnswer → Type 0
 InCheck (check.counted n) = Unit
-InCheck (check.refused n r) = Gives (21 ∷ 23 ∷ 24 ∷ []) (25 ∷ []) r
+InCheck (check.refused n r) = Gives (21 ∷ 23 ∷ 24 ∷ 26 ∷ []) (25 ∷ []) r
 
-check-on : (n : ℕ) (j : Judged) (others : check.CheckAnswer) → InJudged (21 ∷ 23 ∷ 24 ∷ []) (25 ∷ []) refl refl refl j → InCheck others → InCheck (check.unlessBad n j others)
-check-on n (good f) others here later = later
-check-on n (bad r) others here later = here
+check-on : (n : ℕ) (b : Bool) (j : Judged) (others : check.CheckAnswer) → InJudged (21 ∷ 23 ∷ 24 ∷ 26 ∷ []) (25 ∷ []) refl refl refl j → InCheck others → InCheck (check.unlessBad n b j others)
+check-on n true (good f) others here later = refl
+check-on n false (good f) others here later = later
+check-on n b (bad r) others here later = here
 
 check-from : (f : List ℕ) (n left : ℕ) → InCheck (check.checkFrom f n left)
 unfolding check.checkFrom
 check-from f n zero = tt
 check-from f n (suc left) =
-    check-on n (judgedAt f n) (check.checkFrom f (n + 1) left) (judged-gives (21 ∷ 23 ∷ 24 ∷ []) (25 ∷ []) refl refl refl f n) (check-from f (n + 1) left)
+    check-on n (check.repeats f n) (judgedAt f n) (check.checkFrom f (n + 1) left) (judged-gives (21 ∷ 23 ∷ 24 ∷ 26 ∷ []) (25 ∷ []) refl refl refl f n) (check-from f (n + 1) left)
 
 pub check-gives : CheckGives
 unfolding check.checking

@@ -1,5 +1,8 @@
 pub mod RecordLaws
 pub mod FileLaws
+pub mod NameLaws
+pub mod PairingLaws
+pub mod NotedLaws
 pub mod SelectLaws
 pub mod PositionLaws
 pub mod OpeningLaws
@@ -15,6 +18,7 @@ pub mod OnlyLaws
 pub mod WalkLaws
 pub mod FoundLaws
 pub mod CheckedLaws
+pub mod Without26Laws
 pub mod SameLaws
 pub mod GivesLaws
 pub mod BeginningLaws

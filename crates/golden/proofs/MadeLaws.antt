@@ -25,10 +25,11 @@ use Rattle.golden.specs.Finding.{nameOf, found, finding}
 use Rattle.golden.specs.Making.{recordOf, MakeAnswer, made, refused, makingRead, making, afterMaking}
 use Rattle.golden.specs.Record.{recordSize, headSize, messageRoom, storedWord, storedLength, messageOf, allZero, badLength, notClear, good, bad, byReading, judging}
 use Rattle.golden.specs.Theorems.{first-named, MadeIsGood, NeverTooShort}
-use Rattle.golden.proofs.CheckedLaws.{good-are-checked}
+use Rattle.golden.proofs.CheckedLaws.{sound-are-checked}
 use Rattle.golden.proofs.FileLaws.{file-whole, judged-at}
-use Rattle.golden.proofs.FoundLaws.{has-its-own-name, reason-settles-find}
+use Rattle.golden.proofs.FoundLaws.{reason-settles-find}
 use Rattle.golden.proofs.MakingLaws.{record-length}
+use Rattle.golden.proofs.NameLaws.{has-its-own-name}
 use Rattle.golden.proofs.RecordLaws.{length-least, length-most, clear-behind, message-long}
 use Rattle.golden.proofs.SelectLaws.{select-none}
 
@@ -104,11 +105,15 @@ module _ (m : List ℕ) (fields : Fields) (short : length m ≤ messageRoom) (ac
 
   pub checks : checking file ≡ counted 1
   checks =
-      good-are-checked file 1
+      sound-are-checked file 1
       (record {
         whole = whole;
         count = sym one;
-        records = λ k l. let e : k ≡ 0 = omega arith in rw e (record { fields = fields; judged = judged });
+        sound =
+            record {
+              records = λ k l. let e : k ≡ 0 = omega arith in rw e (record { fields = fields; judged = judged });
+              apart = λ i k a l. absurd (omega arith);
+            };
       })
 
   pub compared : comparing file 0 m ≡ positions []

@@ -35,7 +35,7 @@ use Rattle.golden.specs.declared.lister.Entry.the-variants as entry
 use Rattle.golden.specs.declared.maker.Making.{Making}
 use Rattle.golden.specs.declared.maker.Making.the-variants as making
 use Rattle.golden.specs.declared.refusal.Refusal.{Refusal}
-use Rattle.golden.specs.declared.refusal.Refusal.the-variants.{NotAGoldenFile, NoRecord, BadLength, NotClear, RecordRefused, NotFound, RadioRefused, TooLong, MessageRefused, WrongBuffer}
+use Rattle.golden.specs.declared.refusal.Refusal.the-variants.{NotAGoldenFile, NoRecord, BadLength, NotClear, RecordRefused, NameTaken, NotFound, RadioRefused, TooLong, MessageRefused, WrongBuffer}
 use Rattle.golden.specs.declared.stepper.Reached.{Reached}
 use Rattle.golden.specs.declared.stepper.Reached.the-variants as reached
 use Rattle.golden.specs.declared.walker.Walk.{Walk}
@@ -48,8 +48,9 @@ plainOf n =
     (cond (eqb n 22) NoRecord
     (cond (eqb n 23) BadLength
     (cond (eqb n 24) NotClear
+    (cond (eqb n 26) NameTaken
     (cond (eqb n 27) NotFound
-    (cond (eqb n 33) TooLong WrongBuffer)))))
+    (cond (eqb n 33) TooLong WrongBuffer))))))
 
 abbrev passedOf : ℕ → envelope.Refusal → Refusal
 passedOf n r = cond (eqb n 25) (RecordRefused r) (cond (eqb n 31) (RadioRefused r) (MessageRefused r))
@@ -64,6 +65,7 @@ untold-golden-refusal NoRecord = refl
 untold-golden-refusal BadLength = refl
 untold-golden-refusal NotClear = refl
 untold-golden-refusal (RecordRefused r) = ap RecordRefused (untold-refusal r)
+untold-golden-refusal NameTaken = refl
 untold-golden-refusal NotFound = refl
 untold-golden-refusal (RadioRefused r) = ap RadioRefused (untold-refusal r)
 untold-golden-refusal TooLong = refl

@@ -8,14 +8,15 @@ use Rattle.envelope.specs.Refusals.{plainly, passingOn, numbersOf}
 use Rattle.golden.specs.Helpers.{rowOf, rowNumber}
 use Rattle.golden.specs.Refusal.{toldGoldenRefusal}
 use Rattle.golden.specs.declared.refusal.Refusal.{Refusal}
-use Rattle.golden.specs.declared.refusal.Refusal.the-variants.{NotAGoldenFile, NoRecord, BadLength, NotClear, RecordRefused, NotFound, RadioRefused, TooLong, MessageRefused, WrongBuffer}
+use Rattle.golden.specs.declared.refusal.Refusal.the-variants.{NotAGoldenFile, NoRecord, BadLength, NotClear, RecordRefused, NameTaken, NotFound, RadioRefused, TooLong, MessageRefused, WrongBuffer}
 
-pub row-few : (r : Refusal) → rowOf r < 10
+pub row-few : (r : Refusal) → rowOf r < 11
 row-few NotAGoldenFile = omega arith
 row-few NoRecord = omega arith
 row-few BadLength = omega arith
 row-few NotClear = omega arith
 row-few (RecordRefused r) = omega arith
+row-few NameTaken = omega arith
 row-few NotFound = omega arith
 row-few (RadioRefused r) = omega arith
 row-few TooLong = omega arith

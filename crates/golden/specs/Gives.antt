@@ -15,7 +15,7 @@ abbrev pub CountGives : Type 0
 CountGives = (f : List ℕ) (r : Refused) → list.counting f ≡ list.refused r → Gives (21 ∷ []) [] r
 
 abbrev pub CheckGives : Type 0
-CheckGives = (f : List ℕ) (n : ℕ) (r : Refused) → check.checking f ≡ check.refused n r → Gives (21 ∷ 23 ∷ 24 ∷ []) (25 ∷ []) r
+CheckGives = (f : List ℕ) (n : ℕ) (r : Refused) → check.checking f ≡ check.refused n r → Gives (21 ∷ 23 ∷ 24 ∷ 26 ∷ []) (25 ∷ []) r
 
 abbrev pub FindGives : Type 0
 FindGives =

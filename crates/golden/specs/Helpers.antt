@@ -1,14 +1,20 @@
 -- Meanings of the private helpers' answers. No promise to a user names them.
 -- Beside `Judged` of specs/Record an opened record has its stored length with its fields.
-use Prim.Native.Nat.{ℕ, _+_}
-use mathlib.Core.Bool.{Bool, true, false, cond}
+use Prim.Native.Nat.{ℕ, _+_, _%_, _<_}
+use mathlib.Core.Bool.{Bool, true, false, cond, _&&_}
 use mathlib.Core.List.{List}
-use lib.Dec.{ltb}
+use mathlib.Core.Path.{_≡_}
+use lib.Dec.{eqb, ltb}
+use lib.ListN.{getD}
 use Rattle.envelope.specs.Fields.{Fields}
+use Rattle.envelope.specs.Layout.{typePlace, numberPlace}
+use Rattle.envelope.specs.Numbers.{twoAt, fourAt}
 use Rattle.envelope.specs.Refusals.{Refused}
 use Rattle.envelope.specs.Told.{toldEnvelope}
+use Rattle.golden.specs.File.{recordAt}
 use Rattle.golden.specs.Finding.{NameFields, hasName}
-use Rattle.golden.specs.Record.{storedLength, Judged, judging}
+use Rattle.golden.specs.Pairing.{anyBelow}
+use Rattle.golden.specs.Record.{headSize, storedLength, Judged, judging}
 use Rattle.golden.specs.Record as judged
 use Rattle.golden.specs.Refusal.{toldGoldenRefusal}
 use Rattle.golden.specs.declared.finder.Seen.{Seen}
@@ -16,7 +22,7 @@ use Rattle.golden.specs.declared.finder.Seen.the-variants as seen
 use Rattle.golden.specs.declared.record.Opening.{Opening}
 use Rattle.golden.specs.declared.record.Opening.the-variants.{Good, Bad}
 use Rattle.golden.specs.declared.refusal.Refusal.{Refusal}
-use Rattle.golden.specs.declared.refusal.Refusal.the-variants.{NotAGoldenFile, NoRecord, BadLength, NotClear, RecordRefused, NotFound, RadioRefused, TooLong, MessageRefused, WrongBuffer}
+use Rattle.golden.specs.declared.refusal.Refusal.the-variants.{NotAGoldenFile, NoRecord, BadLength, NotClear, RecordRefused, NameTaken, NotFound, RadioRefused, TooLong, MessageRefused, WrongBuffer}
 
 pub data Opened : Type 0 where
   holding : ℕ → Fields → Opened
@@ -48,6 +54,29 @@ toldSeen (seen.Bad r) = bad (toldGoldenRefusal r)
 toldSeen seen.Sought = sought
 toldSeen seen.Other = other
 
+-- ---- the name of a good record as it stands in the record's bytes, by which check looks back
+
+abbrev pub writtenName : List ℕ → NameFields
+writtenName r = record { messageType = twoAt r (headSize + typePlace); number = fourAt r (headSize + numberPlace) }
+
+abbrev pub isWritten : NameFields → List ℕ → Bool
+isWritten name r = eqb (writtenName r .messageType) (name .messageType) && eqb (writtenName r .number) (name .number)
+
+-- a record before `end` has the name in its bytes
+abbrev pub writtenBefore : List ℕ → NameFields → ℕ → Bool
+writtenBefore f name end = anyBelow (λ k. isWritten name (recordAt f k)) end
+
+-- the slots by which check sees at once that most names are new: two of one name have one slot
+abbrev pub slots : ℕ
+slots = 256
+
+unfoldable pub slotOf : NameFields → ℕ
+slotOf name = (name .messageType + name .number) % slots
+
+-- each record before `end` has noted the slot of its name
+abbrev pub NotedBefore : List ℕ → List Bool → ℕ → Type 0
+NotedBefore f noted end = (k : ℕ) → k < end → getD noted (slotOf (writtenName (recordAt f k))) false ≡ true
+
 -- ---- the table of refusals, by rows; 25 apart
 
 abbrev pub isRecordRefused : Refusal → Bool
@@ -56,6 +85,7 @@ isRecordRefused NoRecord = false
 isRecordRefused BadLength = false
 isRecordRefused NotClear = false
 isRecordRefused (RecordRefused r) = true
+isRecordRefused NameTaken = false
 isRecordRefused NotFound = false
 isRecordRefused (RadioRefused r) = false
 isRecordRefused TooLong = false
@@ -68,11 +98,12 @@ rowOf NoRecord = 1
 rowOf BadLength = 2
 rowOf NotClear = 3
 rowOf (RecordRefused r) = 4
-rowOf NotFound = 5
-rowOf (RadioRefused r) = 6
-rowOf TooLong = 7
-rowOf (MessageRefused r) = 8
-rowOf WrongBuffer = 9
+rowOf NameTaken = 5
+rowOf NotFound = 6
+rowOf (RadioRefused r) = 7
+rowOf TooLong = 8
+rowOf (MessageRefused r) = 9
+rowOf WrongBuffer = 10
 
 abbrev pub rowNumber : ℕ → ℕ
-rowNumber row = cond (ltb row 5) (21 + row) (cond (ltb row 6) 27 (cond (ltb row 7) 31 (26 + row)))
+rowNumber row = cond (ltb row 7) (21 + row) (cond (ltb row 8) 31 (25 + row))

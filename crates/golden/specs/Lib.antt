@@ -1,8 +1,9 @@
 pub mod Refusal
 pub mod Record
 pub mod File
-pub mod Checking
 pub mod Finding
+pub mod Pairing
+pub mod Checking
 pub mod Stepping
 pub mod Walking
 pub mod Listing
@@ -10,6 +11,7 @@ pub mod Positions
 pub mod Comparing
 pub mod Beginning
 pub mod Making
+pub mod Without26
 pub mod Gives
 pub mod Helpers
 pub mod Theorems

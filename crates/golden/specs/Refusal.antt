@@ -4,7 +4,7 @@ use Rattle.envelope.specs.Refusals.{Refused, plainly, passingOn, TellsNumbers}
 use Rattle.envelope.specs.Told.{toldRefusal}
 use Rattle.envelope.specs.declared.refusals.Numbers.{Numbers}
 use Rattle.golden.specs.declared.refusal.Refusal.{Refusal}
-use Rattle.golden.specs.declared.refusal.Refusal.the-variants.{NotAGoldenFile, NoRecord, BadLength, NotClear, RecordRefused, NotFound, RadioRefused, TooLong, MessageRefused, WrongBuffer}
+use Rattle.golden.specs.declared.refusal.Refusal.the-variants.{NotAGoldenFile, NoRecord, BadLength, NotClear, RecordRefused, NameTaken, NotFound, RadioRefused, TooLong, MessageRefused, WrongBuffer}
 
 abbrev pub toldGoldenRefusal : Refusal → Refused
 toldGoldenRefusal NotAGoldenFile = plainly 21
@@ -12,6 +12,7 @@ toldGoldenRefusal NoRecord = plainly 22
 toldGoldenRefusal BadLength = plainly 23
 toldGoldenRefusal NotClear = plainly 24
 toldGoldenRefusal (RecordRefused r) = passingOn 25 (toldRefusal r)
+toldGoldenRefusal NameTaken = plainly 26
 toldGoldenRefusal NotFound = plainly 27
 toldGoldenRefusal (RadioRefused r) = passingOn 31 (toldRefusal r)
 toldGoldenRefusal TooLong = plainly 33

@@ -27,6 +27,7 @@ use Rattle.golden.specs.Listing.{CountAnswer, counting, EntryAnswer, lin
 use Rattle.golden.specs.Listing as listing
 use Rattle.golden.specs.Making.{MakeAnswer, made, refused, making, toldMaking, Makes}
 use Rattle.golden.specs.Making as make
+use Rattle.golden.specs.Pairing.{isNamed, pairs}
 use Rattle.golden.specs.Record.{recordSize, headSize, messageRoom, messageOf, good, bad}
 use Rattle.golden.specs.Stepping.{StepAnswer, message, end, stepOf, stepAt, nextAfter, toldReached, storedMessage}
 use Rattle.golden.specs.Stepping as step
@@ -63,29 +64,36 @@ OtherFileStays =
 abbrev pub StepReachesTheStored : Type 0
 StepReachesTheStored = (f : List ℕ) (n : ℕ) (p : Span) → stepAt f n ≡ message p → storedMessage f n ≡ p
 
--- ---- check and find
+-- ---- check
 
 pub record GoodAt (f : List ℕ) (k : ℕ) : Type 0 where
   pub fields : Fields
   pub judged : judgedAt f k ≡ good fields
 
--- where check passes, it counts the file, and every record is good
-pub record AllGood (f : List ℕ) (n : ℕ) : Type 0 where
+-- the first n records are good, and no two of them have one name
+pub record Sound (f : List ℕ) (n : ℕ) : Type 0 where
+  pub records : (k : ℕ) → k < n → GoodAt f k
+  pub apart : (i k : ℕ) → i < k → k < n → pairs (judgedAt f k) (judgedAt f i) ≡ false
+
+-- where check passes, it counts the file, and all its records are sound
+pub record Passed (f : List ℕ) (n : ℕ) : Type 0 where
   pub whole : badFile f ≡ false
   pub count : n ≡ countOf f
-  pub records : (k : ℕ) → k < n → GoodAt f k
+  pub sound : Sound f n
 
-abbrev pub CheckedAreGood : Type 0
-CheckedAreGood = (f : List ℕ) (n : ℕ) → checking f ≡ counted n → AllGood f n
+abbrev pub CheckedAreSound : Type 0
+CheckedAreSound = (f : List ℕ) (n : ℕ) → checking f ≡ counted n → Passed f n
 
 -- and every such file passes
-abbrev pub GoodAreChecked : Type 0
-GoodAreChecked = (f : List ℕ) (n : ℕ) → AllGood f n → checking f ≡ counted n
+abbrev pub SoundAreChecked : Type 0
+SoundAreChecked = (f : List ℕ) (n : ℕ) → Passed f n → checking f ≡ counted n
 
--- where it refuses a file, the record that it names is bad by that refusal and all before it are good; or it is no golden file
+-- where it refuses a file, it is no golden file; or all before the record that it names are sound, and that record is bad by that refusal, or good with the name of an earlier one
 pub data FirstBad (f : List ℕ) : ℕ → Refused → Type 0 where
   not-a-file : badFile f ≡ true → FirstBad f 0 (plainly 21)
-  bad-record : (n : ℕ) (r : Refused) → badFile f ≡ false → n < countOf f → judgedAt f n ≡ bad r → ((i : ℕ) → i < n → GoodAt f i) → FirstBad f n r
+  bad-record : (n : ℕ) (r : Refused) → badFile f ≡ false → n < countOf f → judgedAt f n ≡ bad r → Sound f n → FirstBad f n r
+  repeated : (i n : ℕ) → badFile f ≡ false → n < countOf f → GoodAt f n → i < n → pairs (judgedAt f n) (judgedAt f i) ≡ true → Sound f n
+      → FirstBad f n (plainly 26)
 
 abbrev pub CheckNamesTheFirst : Type 0
 CheckNamesTheFirst = (f : List ℕ) (n : ℕ) (r : Refused) → checking f ≡ check.refused n r → FirstBad f n r
@@ -93,6 +101,54 @@ CheckNamesTheFirst = (f : List ℕ) (n : ℕ) (r : Refused) → checking f ≡ c
 -- and every such file is refused so
 abbrev pub FirstBadIsNamed : Type 0
 FirstBadIsNamed = (f : List ℕ) (n : ℕ) (r : Refused) → FirstBad f n r → checking f ≡ check.refused n r
+
+-- ---- K4, in plain words: two good records, of one type and one number
+
+pub record OneName (f : List ℕ) (i k : ℕ) : Type 0 where
+  pub first : Fields
+  pub second : Fields
+  pub first-good : judgedAt f i ≡ good first
+  pub second-good : judgedAt f k ≡ good second
+  pub same-type : first .header .messageType ≡ second .header .messageType
+  pub same-number : first .header .number ≡ second .header .number
+
+-- in a file that passed there are no two
+abbrev pub NoTwoOfOneName : Type 0
+NoTwoOfOneName = (f : List ℕ) (n i k : ℕ) → checking f ≡ counted n → i < k → k < n → OneName f i k → ⊥
+
+-- where 26 is answered, the record that it names is the later of two, and all before it are sound
+pub record Later (f : List ℕ) (k : ℕ) : Type 0 where
+  pub earlier : ℕ
+  pub before : earlier < k
+  pub there : k < countOf f
+  pub one-name : OneName f earlier k
+  pub sound : Sound f k
+
+abbrev pub RefusesTheLater : Type 0
+RefusesTheLater = (f : List ℕ) (k : ℕ) → checking f ≡ check.refused k (plainly 26) → Later f k
+
+-- and so it is of every such file
+abbrev pub LaterIsRefused : Type 0
+LaterIsRefused = (f : List ℕ) (k : ℕ) → badFile f ≡ false → Later f k → checking f ≡ check.refused k (plainly 26)
+
+-- find of that name gives the earlier one
+abbrev pub EarlierIsFound : Type 0
+EarlierIsFound =
+    (f : List ℕ) (k : ℕ) → badFile f ≡ false → (w : Later f k) → finding f (nameOf (w .one-name .second)) ≡ found (w .earlier) (w .earlier + 1)
+
+-- some records taken out: each record of g is one of f, in the order of f
+pub record TakenOut (f g : List ℕ) : Type 0 where
+  pub whole : badFile g ≡ false
+  pub from : ℕ → ℕ
+  pub there : (k : ℕ) → k < countOf g → from k < countOf f
+  pub in-order : (i k : ℕ) → i < k → k < countOf g → from i < from k
+  pub records : (k : ℕ) → k < countOf g → recordAt g k ≡ recordAt f (from k)
+
+-- a file that passes still passes with records taken out
+abbrev pub FewerStillPass : Type 0
+FewerStillPass = (f g : List ℕ) (n : ℕ) → checking f ≡ counted n → TakenOut f g → checking g ≡ counted (countOf g)
+
+-- ---- find
 
 -- record i is good and has another name
 pub record NotNamed (f : List ℕ) (name : NameFields) (i : ℕ) : Type 0 where
@@ -108,6 +164,15 @@ pub data FirstNamed (f : List ℕ) (name : NameFields) (n : ℕ) : FindAnswer �
 
 abbrev pub FindsTheFirst : Type 0
 FindsTheFirst = (f : List ℕ) (name : NameFields) (n : ℕ) → checking f ≡ counted n → FirstNamed f name n (finding f name)
+
+-- and in a file that passed it is the only one of its name
+pub data TheOne (f : List ℕ) (name : NameFields) (n : ℕ) : FindAnswer → Type 0 where
+  one : (k : ℕ) → k < n → isNamed name (judgedAt f k) ≡ true → ((i : ℕ) → i < n → isNamed name (judgedAt f i) ≡ true → i ≡ k)
+      → TheOne f name n (found k (k + 1))
+  none : ((i : ℕ) → i < n → isNamed name (judgedAt f i) ≡ false) → TheOne f name n (find.refused (plainly 27) n)
+
+abbrev pub FindsTheOne : Type 0
+FindsTheOne = (f : List ℕ) (name : NameFields) (n : ℕ) → checking f ≡ counted n → TheOne f name n (finding f name)
 
 -- why find answers as it does in any file: all records before the deciding one are good and have other names
 pub data FindReason (f : List ℕ) (name : NameFields) : FindAnswer → Type 0 where

@@ -1,10 +1,24 @@
-// Check: every record of a file.
+// Check: every record of a file, and that no two have one name.
+ghost use mathlib.Core.Bool.{false};
+ghost use mathlib.Core.Path.{_≡_};
+ghost use Prim.Native.Nat.{_≤_, _<_};
+ghost use lib.ListN.{length};
 ghost use Rattle.golden.specs.Checking.{Checks};
+ghost use Rattle.golden.specs.File.{countOf, recordAt};
+ghost use Rattle.golden.specs.Finding.{toldName};
+ghost use Rattle.golden.specs.Helpers.{isWritten, writtenBefore, slots, slotOf};
+ghost use Rattle.golden.specs.Record.{recordSize};
 use crate::file::bad_file;
 use crate::file::count_of;
 use crate::file::open_at;
+use crate::finder::Name;
 use crate::record::Opening;
+use crate::record::Record;
 use crate::refusal::Refusal;
+use envelope::numbers::four_bytes;
+use envelope::numbers::two_bytes;
+
+const SLOTS: usize = 256;
 
 pub enum Checking {
     Count(usize),
@@ -21,15 +35,73 @@ pub fn check(file: &[u8]) -> Checking
         };
     }
     let count = count_of(file);
+    let mut noted = [false; SLOTS];
     let mut n = 0;
     while n < count {
         match open_at(file, n) {
             Opening::Bad(refusal) => {
                 return Checking::Refused { record: n, refusal };
             }
-            Opening::Good(_) => {}
+            Opening::Good(good) => {
+                let name = Name::of(good);
+                let slot = slot_of(name);
+                if name_taken(file, name, n, noted[slot]) {
+                    return Checking::Refused {
+                        record: n,
+                        refusal: Refusal::NameTaken,
+                    };
+                }
+                noted[slot] = true;
+            }
         }
         n += 1;
     }
     Checking::Count(n)
+}
+
+// One slot for a name: most names have one of their own, also where only types or only numbers differ.
+fn slot_of(name: Name) -> usize
+    ensures { λ r. ⌜ (r ≡ slotOf (toldName name)) × (r < slots) ⌝ }
+{
+    (name.message_type as usize + name.number as usize) % SLOTS
+}
+
+// Whether a record before `end` has the name. They are good, so the bytes of type and number tell it, and none is read again.
+// Most names are in a slot where none was noted before, and then none is looked at.
+fn name_taken(file: &[u8], name: Name, end: usize, noted: bool) -> bool
+    requires { ⌜ (end ≤ countOf (now file)) × (noted ≡ false → writtenBefore (now file) (toldName name) end ≡ false) ⌝ }
+    ensures { λ r. ⌜ r ≡ writtenBefore (now (file .entry)) (toldName name) end ⌝ }
+{
+    if !noted {
+        return false;
+    }
+    let mut earlier = 0;
+    while earlier < end {
+        if is_written_at(file, earlier, name) {
+            return true;
+        }
+        earlier += 1;
+    }
+    false
+}
+
+fn is_written_at(file: &[u8], n: usize, name: Name) -> bool
+    requires { ⌜ n < countOf (now file) ⌝ }
+    ensures { λ r. ⌜ r ≡ isWritten (toldName name) (recordAt (now (file .entry)) n) ⌝ }
+{
+    let start = n * Record::SIZE;
+    let end = start + Record::SIZE;
+    is_written(&file[start..end], name)
+}
+
+fn is_written(bytes: &[u8], name: Name) -> bool
+    requires { ⌜ length (now bytes) ≡ recordSize ⌝ }
+    ensures { λ r. ⌜ r ≡ isWritten (toldName name) (now (bytes .entry)) ⌝ }
+{
+    let at = Record::TYPE_PLACE;
+    if two_bytes(bytes[at], bytes[at + 1]) != name.message_type {
+        return false;
+    }
+    let at = Record::NUMBER_PLACE;
+    four_bytes(bytes[at], bytes[at + 1], bytes[at + 2], bytes[at + 3]) == name.number
 }

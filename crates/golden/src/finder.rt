@@ -3,7 +3,7 @@ ghost use mathlib.Core.Path.{_≡_};
 ghost use Prim.Native.Nat.{_≤_};
 ghost use Rattle.envelope.specs.Told.{toldEnvelope};
 ghost use Rattle.golden.specs.File.{countOf};
-ghost use Rattle.golden.specs.Finding.{hasName, findFrom, toldName, toldFinding, Finds};
+ghost use Rattle.golden.specs.Finding.{hasName, nameOf, findFrom, toldName, toldFinding, Finds};
 ghost use Rattle.golden.specs.Helpers.{toldOpening, seenAs, toldSeen};
 use crate::file::bad_file;
 use crate::file::count_of;
@@ -16,6 +16,18 @@ use crate::refusal::Refusal;
 pub struct Name {
     pub message_type: u16,
     pub number: u32,
+}
+
+impl Name {
+    // The name of a good record.
+    pub(crate) fn of(good: GoodRecord) -> Name
+        ensures { λ r. ⌜ toldName r ≡ nameOf (toldEnvelope (good .envelope)) ⌝ }
+    {
+        Name {
+            message_type: good.envelope.header.message_type,
+            number: good.envelope.header.number,
+        }
+    }
 }
 
 pub enum Finding {

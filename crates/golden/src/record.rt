@@ -33,6 +33,11 @@ impl Record {
     pub const HEAD_SIZE: usize = 2;
     // The longest message that fits.
     pub const MESSAGE_ROOM: usize = Record::SIZE - Record::HEAD_SIZE;
+    // Where the type and the number of its message stand.
+    pub(crate) const TYPE_PLACE: usize = Record::HEAD_SIZE + Envelope::TYPE_PLACE;
+
+    pub(crate) const NUMBER_PLACE: usize = Record::HEAD_SIZE + Envelope::NUMBER_PLACE;
+
     // The most records that a file may have, and so its largest size.
     pub const MOST_RECORDS: usize = 128;
 

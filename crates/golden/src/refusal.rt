@@ -12,6 +12,7 @@ pub enum Refusal {
     BadLength,
     NotClear,
     RecordRefused(envelope::Refusal),
+    NameTaken,
     NotFound,
     RadioRefused(envelope::Refusal),
     TooLong,
@@ -52,28 +53,26 @@ impl Refusal {
             Refusal::BadLength => 2,
             Refusal::NotClear => 3,
             Refusal::RecordRefused(_) => 4,
-            Refusal::NotFound => 5,
-            Refusal::RadioRefused(_) => 6,
-            Refusal::TooLong => 7,
-            Refusal::MessageRefused(_) => 8,
-            Refusal::WrongBuffer => 9,
+            Refusal::NameTaken => 5,
+            Refusal::NotFound => 6,
+            Refusal::RadioRefused(_) => 7,
+            Refusal::TooLong => 8,
+            Refusal::MessageRefused(_) => 9,
+            Refusal::WrongBuffer => 10,
         }
     }
 }
 
-// 21 to 25, 27, 31, and 33 to 35. Counted and not listed, for of a list the compiler makes a table in the archive.
+// 21 to 27, 31, and 33 to 35. Counted and not listed, for of a list the compiler makes a table in the archive.
 fn number_of(row: u8) -> u8
-    requires { ⌜ row < 10 ⌝ }
+    requires { ⌜ row < 11 ⌝ }
     ensures { λ r. ⌜ r ≡ rowNumber row ⌝ }
 {
-    if row < 5 {
+    if row < 7 {
         return 21 + row;
     }
-    if row < 6 {
-        return 27;
-    }
-    if row < 7 {
+    if row < 8 {
         return 31;
     }
-    26 + row
+    25 + row
 }

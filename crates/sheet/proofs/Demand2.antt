@@ -7,7 +7,8 @@ use Rattle.envelope.specs.RoundTrips.{WrittenThenRead, WrittenBufferThenRead, W
 use Rattle.envelope.proofs.QosLaws.{joins-what-was-split, splits-what-was-joined}
 use Rattle.envelope.proofs.RoundTripLaws as trips
 use Rattle.golden.specs.Beginning.{NeverABeginning, Never32, CompareIsUnchanged, CompareNeverGives32}
-use Rattle.golden.specs.Theorems.{FileWalksInOrder, OtherFileStays, StepReachesTheStored, CheckedAreGood, GoodAreChecked, CheckNamesTheFirst, FirstBadIsNamed, FindsTheFirst, FindGivesItsReason, ReasonSettlesFind, SameIsEqual, MadeIsGood, NeverTooShort}
+use Rattle.golden.specs.Theorems.{FileWalksInOrder, OtherFileStays, StepReachesTheStored, CheckedAreSound, SoundAreChecked, CheckNamesTheFirst, FirstBadIsNamed, NoTwoOfOneName, RefusesTheLater, LaterIsRefused, EarlierIsFound, FewerStillPass, FindsTheFirst, FindsTheOne, FindGivesItsReason, ReasonSettlesFind, SameIsEqual, MadeIsGood, NeverTooShort}
+use Rattle.golden.specs.Without26.{Only26IsNew, PassedWithout26}
 use Rattle.golden.proofs.BeginningLaws as beginning
 use Rattle.golden.proofs.CheckedLaws as checked
 use Rattle.golden.proofs.FoundLaws as found
@@ -15,6 +16,7 @@ use Rattle.golden.proofs.MadeLaws as made
 use Rattle.golden.proofs.SameLaws as same
 use Rattle.golden.proofs.SteppingLaws as step
 use Rattle.golden.proofs.WalkLaws as walk
+use Rattle.golden.proofs.Without26Laws as without26
 
 -- the sums of the documents: no bytes, the digits 1 to 9 (case n), and the digits with their complemented sum
 pub the-documents-vectors : Vectors
@@ -57,11 +59,11 @@ other-file-stays = walk.other-file-stays
 pub step-reaches-the-stored : StepReachesTheStored
 step-reaches-the-stored = step.step-reaches-the-stored
 
-pub checked-are-good : CheckedAreGood
-checked-are-good = checked.checked-are-good
+pub checked-are-sound : CheckedAreSound
+checked-are-sound = checked.checked-are-sound
 
-pub good-are-checked : GoodAreChecked
-good-are-checked = checked.good-are-checked
+pub sound-are-checked : SoundAreChecked
+sound-are-checked = checked.sound-are-checked
 
 pub check-names-the-first : CheckNamesTheFirst
 check-names-the-first = checked.check-names-the-first
@@ -71,6 +73,34 @@ first-bad-is-named = checked.first-bad-is-named
 
 pub finds-the-first : FindsTheFirst
 finds-the-first = checked.finds-the-first
+
+-- ---- K4: no two records of one name
+
+pub no-two-of-one-name : NoTwoOfOneName
+no-two-of-one-name = checked.no-two-of-one-name
+
+pub refuses-the-later : RefusesTheLater
+refuses-the-later = checked.refuses-the-later
+
+pub later-is-refused : LaterIsRefused
+later-is-refused = checked.later-is-refused
+
+pub earlier-is-found : EarlierIsFound
+earlier-is-found = checked.earlier-is-found
+
+pub fewer-still-pass : FewerStillPass
+fewer-still-pass = checked.fewer-still-pass
+
+pub finds-the-one : FindsTheOne
+finds-the-one = checked.finds-the-one
+
+pub only-26-is-new : Only26IsNew
+only-26-is-new = without26.only-26-is-new
+
+pub passed-without-26 : PassedWithout26
+passed-without-26 = without26.passed-without-26
+
+-- ---- find, in any file
 
 pub find-gives-its-reason : FindGivesItsReason
 find-gives-its-reason = found.find-gives-its-reason

@@ -46,7 +46,7 @@ use Rattle.golden.specs.Making as make
 use Rattle.golden.specs.Record.{storedWord, storedLength, badLength, allZero, judging, messageOf}
 use Rattle.golden.specs.Stepping.{end, stepAt, nextAfter, toldReached}
 use Rattle.golden.specs.Stepping as step
-use Rattle.golden.specs.Theorems.{AllGood, FirstBad, FirstNamed, no-file, MadeGood, InOrder}
+use Rattle.golden.specs.Theorems.{Passed, FirstBad, FirstNamed, no-file, MadeGood, InOrder}
 use Rattle.golden.specs.declared.comparer.Comparison.the-variants as comparison
 use Rattle.golden.specs.declared.maker.Making.the-variants.{Made}
 use Rattle.golden.specs.declared.maker.Making.the-variants as making
@@ -62,7 +62,7 @@ use Rattle.sheet.specs.Cases.{M, likeM, C, fieldsOfC}
 use Rattle.sheet.specs.Limits.{acrossTheEdge}
 use Rattle.sheet.proofs.Cases.{starred}
 use Rattle.sheet.proofs.Demand1.{a-word-tells-its-slots, count-gives, check-gives, find-gives, step-gives, entry-gives, compare-gives, make-gives, a-refusal-writes-nothing, a-refused-rewrite-writes-nothing, refused-read-for-c-keeps, a-refused-comparison-keeps-the-list, a-refused-making-keeps-the-buffer}
-use Rattle.sheet.proofs.Demand2.{written-then-read, written-buffer-then-read, written-then-handed-out, read-then-written, handed-out-then-written, same-fields-same-bytes, qos-joins-what-was-split, qos-splits-what-was-joined, file-walks-in-order, other-file-stays, checked-are-good, good-are-checked, check-names-the-first, first-bad-is-named, finds-the-first, reason-settles-find, same-is-equal, made-is-good, never-a-beginning}
+use Rattle.sheet.proofs.Demand2.{written-then-read, written-buffer-then-read, written-then-handed-out, read-then-written, handed-out-then-written, same-fields-same-bytes, qos-joins-what-was-split, qos-splits-what-was-joined, file-walks-in-order, other-file-stays, checked-are-sound, sound-are-checked, check-names-the-first, first-bad-is-named, finds-the-first, reason-settles-find, same-is-equal, made-is-good, never-a-beginning}
 use Rattle.sheet.proofs.Apart.{apart}
 use Rattle.sheet.proofs.Demand3.{four-bytes-show, thirty-two-bits-show, three-bits-show, bytes-at-the-edge-show, two-and-two-show, demand-3, demand-3-bits, golden-demand-3, three-bits-anywhere, golden-three-bits-anywhere, any-window, golden-any-window, middle-window, golden-middle-window}
 use Rattle.sheet.proofs.Limits.{limits, bytes-of-pair, pair-length, pair-outside}
@@ -156,11 +156,11 @@ pub one-byte-is-no-file : FirstBad (7 ∷ []) 0 (plainly 21)
 unfolding checking badFile
 one-byte-is-no-file = check-names-the-first (7 ∷ []) 0 (plainly 21) refl
 
-pub made-file-has-good-records : AllGood file 1
-made-file-has-good-records = checked-are-good file 1 checks-M
+pub made-file-is-sound : Passed file 1
+made-file-is-sound = checked-are-sound file 1 checks-M
 
 pub made-file-passes : checking file ≡ counted 1
-made-file-passes = good-are-checked file 1 made-file-has-good-records
+made-file-passes = sound-are-checked file 1 made-file-is-sound
 
 pub made-file-is-searched : FirstNamed file (record { messageType = 6000; number = 1 }) 1 (finding file (record { messageType = 6000; number = 1 }))
 made-file-is-searched = finds-the-first file (record { messageType = 6000; number = 1 }) 1 checks-M
@@ -237,7 +237,7 @@ pub count-gave-21 : Gives (21 ∷ []) [] (plainly 21)
 unfolding counting badFile
 count-gave-21 = count-gives (7 ∷ []) (plainly 21) refl
 
-pub check-gave-23 : Gives (21 ∷ 23 ∷ 24 ∷ []) (25 ∷ []) (plainly 23)
+pub check-gave-23 : Gives (21 ∷ 23 ∷ 24 ∷ 26 ∷ []) (25 ∷ []) (plainly 23)
 check-gave-23 = check-gives shortLength 0 (plainly 23) (bad-records .0)
 
 pub find-gave-21 : Gives (21 ∷ 23 ∷ 24 ∷ 27 ∷ []) (25 ∷ []) (plainly 21)

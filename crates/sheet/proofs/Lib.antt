@@ -30,3 +30,7 @@ pub mod FrameInstances
 pub mod SayWhere
 pub mod WrongPlaces
 pub mod PlaceInstances
+pub mod SmallFiles
+pub mod NameCases
+pub mod WrongNames
+pub mod NameInstances

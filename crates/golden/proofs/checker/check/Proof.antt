@@ -1,19 +1,57 @@
--- The loop of `checker::check`: the records that are left give what all of them give.
-use mathlib.Core.Path.{_≡_, ap, sym, _∙_}
-use Prim.Native.Nat.{_≤_, _-_}
+-- The loop of `checker::check`: the records seen are good and noted, and those that are left give what all of them give.
+use mathlib.Core.Bool.{true, false}
+use mathlib.Core.Path.{_≡_, refl, ap, sym, _∙_}
+use Prim.Native.Nat.{ℕ, _≤_, _<_, _-_}
 use native.Mathlib.Omega.{arith}
 use borrow.Author.Needs.{needs}
-use Rattle.golden.proofs.FindingLaws.{judged-bad, judged-good, check-21, check-all, check-start, check-on, check-end}
-use Rattle.golden.specs.Checking.{checkFrom}
-use Rattle.golden.specs.Helpers.{toldOpening}
+use lib.ListN.{length, getD, length-set}
+use Rattle.envelope.specs.Told.{toldEnvelope}
+use Rattle.golden.proofs.FileLaws.{one-more}
+use Rattle.golden.proofs.FindingLaws.{judged-bad, judged-good, check-21, check-all, check-start, check-on, check-end, repeats-by-bytes}
+use Rattle.golden.proofs.NameLaws.{name-is-written}
+use Rattle.golden.proofs.NotedLaws.{none-noted, noted-on}
+use Rattle.golden.specs.Checking.{repeats, checkFrom}
+use Rattle.golden.specs.File.{recordAt, judgedAt}
+use Rattle.golden.specs.Finding.{NameFields, toldName}
+use Rattle.golden.specs.Helpers.{toldOpening, writtenName, writtenBefore, slots, slotOf, NotedBefore}
+use Rattle.golden.specs.Record.{good}
+use Rattle.golden.specs.Theorems.{GoodAt}
 use Rattle.golden.proofs.checker.check.Statement.{statement}
 use Rattle.golden.proofs.checker.check.Tie as tie
 
 abbrev Inv-loop : tie.InvT-loop
-Inv-loop file count n₀ n = (n ≤ count) × (checkFrom file 0 count ≡ checkFrom file n (count - n))
+Inv-loop file count noted₀ n₀ noted n =
+    (n ≤ count) × (checkFrom file 0 count ≡ checkFrom file n (count - n)) × ((k : ℕ) → k < n → GoodAt file k) × (length noted ≡ slots) × NotedBefore file noted n
 
 abbrev μ-loop : tie.MeasureT-loop
-μ-loop file count n₀ n = count - n
+μ-loop file count noted₀ n₀ noted n = count - n
+
+-- the record at hand is good
+good-here : (c : tie.After-good2 Inv-loop μ-loop) →
+    let loop = c .before .before .before .before in
+    let start = loop .before .before .before .before .before in
+    judgedAt (start .args .file .now) (loop .loop .n) ≡ good (toldEnvelope (c .good2 .given .0 .0 .envelope))
+good-here c = judged-good _ _ _ _ (ap toldOpening (sym (c .good2 .given .1)) ∙ c .before .before .open-at .ensures) .0
+
+-- its slot is that of the name in its bytes
+slot-here : (c : tie.After-slot-of Inv-loop μ-loop) →
+    let loop = c .before .before .before .before .before .before .before in
+    let start = loop .before .before .before .before .before in
+    slotOf (writtenName (recordAt (start .args .file .now) (loop .loop .n))) ≡ c .slot-of .result
+slot-here c =
+    ap slotOf (sym (name-is-written _ _ _ (good-here (c .before .before .before))) ∙ sym (c .before .of .ensures)) ∙ sym (c .slot-of .ensures .0)
+
+-- and its name is taken, or not
+taken : (c : tie.After-name-taken Inv-loop μ-loop) →
+    let loop = c .before .before .before .before .before .before .before .before in
+    let start = loop .before .before .before .before .before in
+    repeats (start .args .file .now) (loop .loop .n) ≡ c .name-taken .result
+taken c =
+    let loop = c .before .before .before .before .before .before .before .before in
+    let start = loop .before .before .before .before .before in
+    repeats-by-bytes _ _ _ (good-here (c .before .before .before .before)) (loop .loop .inv .2)
+    ∙ ap (λ (name : NameFields). writtenBefore (start .args .file .now) name (loop .loop .n)) (sym (c .before .before .of .ensures))
+    ∙ sym (c .name-taken .ensures)
 
 bad-file-requires : tie.Need-bad-file-requires Inv-loop μ-loop
 bad-file-requires c κs = search needs
@@ -25,7 +63,7 @@ count-of-requires : tie.Need-count-of-requires Inv-loop μ-loop
 count-of-requires c κs = search needs
 
 loop-holds : tie.Need-loop-holds Inv-loop μ-loop
-loop-holds c = (omega arith, check-start _ _)
+loop-holds c = (omega arith, check-start _ _, λ k l. absurd (omega arith), refl, λ k l. absurd (omega arith))
 
 open-at-requires : tie.Need-open-at-requires Inv-loop μ-loop
 open-at-requires c κs = omega arith
@@ -38,10 +76,37 @@ returns-2 c =
     let count = c .before .before .before .before .before .before in
     check-all _ (sym (count .before .before .bad-file .ensures) ∙ count .before .if1 .left) _
     (rw (← count .count-of .ensures)
-    (c .before .before .before .before .before .loop .inv .1 ∙ check-on _ _ _ (c .before .before .before .before .loop-test .taken) _ (judged-bad _ _ _ (ap toldOpening (sym (c .before .refusal .given .1)) ∙ c .before .before .before .open-at .ensures))))
+    (c .before .before .before .before .before .loop .inv .1 ∙ check-on _ _ _ (c .before .before .before .before .loop-test .taken) _ refl _ (judged-bad _ _ _ (ap toldOpening (sym (c .before .refusal .given .1)) ∙ c .before .before .before .open-at .ensures))))
 
-enum-told : tie.Need-enum-told Inv-loop μ-loop
-enum-told c = search needs
+enum-known-good : tie.Need-enum-known-good Inv-loop μ-loop
+enum-known-good c = search needs
+
+of-requires : tie.Need-of-requires Inv-loop μ-loop
+of-requires c κs = search needs
+
+slot-of-requires : tie.Need-slot-of-requires Inv-loop μ-loop
+slot-of-requires c κs = search needs
+
+array-read-name-taken : tie.Need-array-read-name-taken Inv-loop μ-loop
+array-read-name-taken c = omega (arith, c .before .before .before .before .before .before .before .loop .inv .3, c .slot-of .ensures .1)
+
+name-taken-requires : tie.Need-name-taken-requires Inv-loop μ-loop
+name-taken-requires c κs =
+    let loop = c .before .before .before .before .before .before .before in (
+      omega arith,
+      λ e. none-noted _ (loop .loop .noted) (toldName (c .before .of .result)) _ (loop .loop .inv .4) (ap (λ (s : ℕ). getD (loop .loop .noted) s false) (sym (c .slot-of .ensures .0)) ∙ e),
+    )
+
+returns-3 : tie.Need-returns-3 Inv-loop μ-loop
+returns-3 c =
+    let loop = c .before .before .before .before .before .before .before .before .before in
+    let count = loop .before in
+    check-all _ (sym (count .before .before .bad-file .ensures) ∙ count .before .if1 .left) _
+    (rw (← count .count-of .ensures)
+    (loop .loop .inv .1 ∙ check-on _ _ _ (c .before .before .before .before .before .before .before .before .loop-test .taken) _ (taken (c .before) ∙ c .if2 .taken) _ (good-here (c .before .before .before .before .before))))
+
+array-write-noted : tie.Need-array-write-noted Inv-loop μ-loop
+array-write-noted c = omega (arith, c .before .before .before .before .before .before .before .before .before .loop .inv .3, c .before .before .slot-of .ensures .1)
 
 add-n : tie.Need-add-n Inv-loop μ-loop
 add-n c = search needs
@@ -50,13 +115,21 @@ loop-less : tie.Need-loop-less Inv-loop μ-loop
 loop-less c = search needs
 
 loop-again : tie.Need-loop-again Inv-loop μ-loop
-loop-again c = (
-  omega arith,
-  c .before .before .before .before .loop .inv .1 ∙ check-on _ _ _ (c .before .before .before .loop-test .taken) _ (judged-good _ _ _ _ (ap toldOpening (sym (c .enum-told .given .1)) ∙ c .before .before .open-at .ensures) .0),
-)
+loop-again c =
+    let loop = c .before .before .before .before .before .before .before .before .before in
+    let here = good-here (c .before .before .before .before .before) in
+    let slot = c .before .before in
+    let room = loop .loop .inv .3 in
+    let within = slot .slot-of .ensures .1 in (
+      omega arith,
+      loop .loop .inv .1 ∙ check-on _ _ _ (c .before .before .before .before .before .before .before .before .loop-test .taken) _ (taken (c .before) ∙ c .if2 .left) _ here,
+      one-more (GoodAt _) _ (loop .loop .inv .2) (record { fields = _; judged = here }),
+      length-set (loop .loop .noted) (slot .slot-of .result) true ∙ room,
+      noted-on _ (loop .loop .noted) _ (slot .slot-of .result) (omega (arith, room, within)) (slot-here slot) (loop .loop .inv .4),
+    )
 
-returns-3 : tie.Need-returns-3 Inv-loop μ-loop
-returns-3 c =
+returns-4 : tie.Need-returns-4 Inv-loop μ-loop
+returns-4 c =
     let count = c .before .before in
     check-all _ (sym (count .before .before .bad-file .ensures) ∙ count .before .if1 .left) _
     (rw (← count .count-of .ensures) (c .before .loop .inv .1 ∙ check-end _ _ _ (c .loop-test .left)))
@@ -74,8 +147,14 @@ check-spec =
     open-at-requires
     enum-known-refusal
     returns-2
-    enum-told
+    enum-known-good
+    of-requires
+    slot-of-requires
+    array-read-name-taken
+    name-taken-requires
+    returns-3
+    array-write-noted
     add-n
     loop-less
     loop-again
-    returns-3)
+    returns-4)

@@ -13,14 +13,11 @@ returns c = rw (lt-ltb _ _ (c .if1 .taken))
 returns-2 : tie.Need-returns-2
 returns-2 c = rw (le-ltb _ _ (c .before .if1 .left), lt-ltb _ _ (c .if2 .taken))
 
-returns-3 : tie.Need-returns-3
-returns-3 c = rw (le-ltb _ _ (c .before .before .if1 .left), le-ltb _ _ (c .before .if2 .left), lt-ltb _ _ (c .if3 .taken))
-
 add-result-2 : tie.Need-add-result-2
 add-result-2 c = search needs
 
-returns-4 : tie.Need-returns-4
-returns-4 c = rw (le-ltb _ _ (c .before .before .if1 .left), le-ltb _ _ (c .before .if2 .left), le-ltb _ _ (c .if3 .left))
+returns-3 : tie.Need-returns-3
+returns-3 c = rw (le-ltb _ _ (c .before .if1 .left), le-ltb _ _ (c .if2 .left))
 
 pub number-of-spec : {M : Type 1} → statement M
-number-of-spec = tie.close (tie.spec add-result returns returns-2 returns-3 add-result-2 returns-4)
+number-of-spec = tie.close (tie.spec add-result returns returns-2 add-result-2 returns-3)
