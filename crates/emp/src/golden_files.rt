@@ -37,25 +37,21 @@ pub fn list_file(manner: Manner, file: &[u8]) -> Status {
 }
 
 fn list_records(manner: Manner, file: &[u8], records: usize) -> Status {
+    let mut status = Status::Done;
     let mut n = 0;
     while n < records {
         match list_record(manner, file, n) {
             Status::Complained => {
                 return Status::Complained;
             }
-            _ => {
-                n += 1;
+            Status::Refused => {
+                status = Status::Refused;
             }
+            Status::Done => {}
         }
+        n += 1;
     }
-    status_of(file)
-}
-
-fn status_of(file: &[u8]) -> Status {
-    match check(file) {
-        Checking::Count(_) => Status::Done,
-        _ => Status::Refused,
-    }
+    status
 }
 
 fn list_record(manner: Manner, file: &[u8], n: usize) -> Status {
@@ -78,7 +74,54 @@ fn list_record(manner: Manner, file: &[u8], n: usize) -> Status {
 pub fn check_file(manner: Manner, file: &[u8]) -> Status {
     match check(file) {
         Checking::Count(count) => tell(manner, Status::Done, rows::CHECKED, &[count as u64], file),
-        Checking::Refused { record, refusal } => refuse_record(manner, file, record, refusal),
+        Checking::Refused { record, refusal } => refuse_checked(manner, file, record, refusal),
+    }
+}
+
+fn refuse_checked(manner: Manner, file: &[u8], record: usize, refusal: Refusal) -> Status {
+    match refusal {
+        Refusal::NameTaken => refuse_taken(manner, file, record, refusal),
+        _ => refuse_record(manner, file, record, refusal),
+    }
+}
+
+// With the record's name, by which find gives the earlier one.
+fn refuse_taken(manner: Manner, file: &[u8], record: usize, refusal: Refusal) -> Status {
+    match entry_at(file, record) {
+        Entry::Good {
+            message_type,
+            number,
+            size: _,
+        } => {
+            let name = Name {
+                message_type,
+                number,
+            };
+            tell_taken(manner, file, record, refusal, name)
+        }
+        Entry::Refused(_) => refuse_record(manner, file, record, refusal),
+    }
+}
+
+fn tell_taken(manner: Manner, file: &[u8], record: usize, refusal: Refusal, name: Name) -> Status {
+    match find(file, name) {
+        Finding::Found {
+            record: earlier,
+            opened: _,
+        } => tell(
+            manner,
+            Status::Refused,
+            rows::TAKEN,
+            &[
+                record as u64,
+                refusal.numbers().number as u64,
+                name.message_type as u64,
+                name.number as u64,
+                earlier as u64,
+            ],
+            file,
+        ),
+        _ => refuse_record(manner, file, record, refusal),
     }
 }
 
@@ -119,6 +162,7 @@ fn what_of(refusal: Refusal, whole: u64, one: u64) -> u64 {
         Refusal::BadLength => one,
         Refusal::NotClear => one,
         Refusal::RecordRefused(_) => one,
+        Refusal::NameTaken => one,
         _ => whole,
     }
 }

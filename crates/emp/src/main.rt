@@ -40,7 +40,7 @@ use wording::telling::complain;
 fn main() {
     status::tell(run(
         b"list GOLDEN\tevery record: its type, number and length, or its refusal\tgood RECORD TYPE NUMBER LENGTH, or refused RECORD REFUSAL READING PLACE FILE-PLACE
-check GOLDEN\tthe count of records, or the first bad one\tgood COUNT, or refused RECORD REFUSAL READING PLACE FILE-PLACE
+check GOLDEN\tthe count of records, or the first that is bad or has the type and number of an earlier one\tgood COUNT, or refused RECORD REFUSAL READING PLACE FILE-PLACE, and with 26 the EARLIER record behind these
 find GOLDEN TYPE NUMBER\tthe first record of that type and number, and how many were opened\tfound RECORD OPENED, or refused RECORD OPENED REFUSAL READING PLACE FILE-PLACE
 compare GOLDEN RECORD RADIO\ta record beside the radio's message: same, or where the two differ\tsame LENGTH, or different TOTAL and then place PLACE GOLDEN RADIO FIELD for each place below 512, or refused REFUSAL READING PLACE FILE-PLACE
 read MESSAGE\tevery field of a message, or its refusal, and its bytes with the place in brackets\taccepted LENGTH TYPE VERSION FLAGS DATA-LENGTH NUMBER TIME VARIABLE-SIZE TTL QOS SOURCE DESTINATION BODY-PLACE INTEGRITY KIND, or refused REFUSAL READING PLACE

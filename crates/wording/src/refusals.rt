@@ -148,6 +148,7 @@ fn by_refusals(to: i32, half: usize, numbers: &[u64]) -> Status {
 23\tthe stored length is below 21 or above 510
 24\ta byte after the message is not zero
 25\tthe record's message is refused by reading
+26\tan earlier record has the type and number of this one
 27\tevery record is good and none has that type and number
 31\tthe radio's message is refused by reading
 33\tthe message is over 510 bytes, the most that a record holds

@@ -51,6 +51,8 @@ pub(crate) fn put_by(to: i32, status: Status, half: usize, numbers: &[u64], lent
 \0good\t#\t#\t#\t#
 \0good: # record*
 \0good\t#
+\0record #: refused #, type #, number # is already that of record #
+\0refused\t#\t#__\t0\t0\t-\t#
 \0record # (# opened)
 \0found\t#\t#
 \0same, # byte*

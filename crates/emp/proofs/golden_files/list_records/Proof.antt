@@ -5,10 +5,10 @@ use Rattle.emp.proofs.golden_files.list_records.Statement.{statement}
 use Rattle.emp.proofs.golden_files.list_records.Tie as tie
 
 abbrev Inv-loop : tie.InvT-loop
-Inv-loop manner file records n₀ n = n ≤ records
+Inv-loop manner file records status₀ n₀ status n = n ≤ records
 
 abbrev μ-loop : tie.MeasureT-loop
-μ-loop manner file records n₀ n = records - n
+μ-loop manner file records status₀ n₀ status n = records - n
 
 loop-holds : tie.Need-loop-holds Inv-loop μ-loop
 loop-holds c = search needs
@@ -22,6 +22,12 @@ enum-told c = search needs
 returns : tie.Need-returns Inv-loop μ-loop
 returns c = search needs
 
+enum-told-2 : tie.Need-enum-told-2 Inv-loop μ-loop
+enum-told-2 c = search needs
+
+enum-told-3 : tie.Need-enum-told-3 Inv-loop μ-loop
+enum-told-3 c = search needs
+
 add-n : tie.Need-add-n Inv-loop μ-loop
 add-n c = search needs
 
@@ -30,9 +36,6 @@ loop-less c = search needs
 
 loop-again : tie.Need-loop-again Inv-loop μ-loop
 loop-again c = search needs
-
-status-of-requires : tie.Need-status-of-requires Inv-loop μ-loop
-status-of-requires c κs = search needs
 
 returns-2 : tie.Need-returns-2 Inv-loop μ-loop
 returns-2 c = search needs
@@ -47,8 +50,9 @@ list-records-spec =
     list-record-requires
     enum-told
     returns
+    enum-told-2
+    enum-told-3
     add-n
     loop-less
     loop-again
-    status-of-requires
     returns-2)
