@@ -44,6 +44,14 @@ fn changed(place: usize, byte: u8) -> Vec<u8> {
     message
 }
 
+/// M with this name: a type and a message number.
+pub fn named(message_type: u16, number: u32) -> Vec<u8> {
+    let mut message = shortest();
+    message[1..3].copy_from_slice(&message_type.to_be_bytes());
+    message[8..12].copy_from_slice(&number.to_be_bytes());
+    message
+}
+
 /// M with a body of one byte.
 pub fn one_body_byte() -> Vec<u8> {
     let mut message = changed(7, 1);
@@ -92,11 +100,16 @@ pub fn messages() -> Vec<Case> {
     table.into_iter().map(|(name, message, answer, place)| Case { name, message, answer, place }).collect()
 }
 
+/// A record that stores these bytes, be they a message or not.
+pub fn record_of(bytes: &[u8]) -> Vec<u8> {
+    let mut record = [&(bytes.len() as u16).to_be_bytes(), bytes].concat();
+    record.resize(512, 0);
+    record
+}
+
 /// The file of the listing case: M in a record, then the same record with a stored length of 20.
 pub fn listed_file() -> Vec<u8> {
-    let mut record = [vec![0, 21], shortest()].concat();
-    record.resize(512, 0);
-    let mut file = record.repeat(2);
+    let mut file = record_of(&shortest()).repeat(2);
     file[513] = 20;
     file
 }

@@ -18,6 +18,7 @@ pub enum Refusal {
     StoredLength,
     NotClear,
     Record(Unread),
+    NameTaken,
     NotFound,
     Radio(Unread),
     TooLong,
@@ -34,6 +35,7 @@ impl Refusal {
             Refusal::StoredLength => (23, 0, 0),
             Refusal::NotClear => (24, 0, 0),
             Refusal::Record(unread) => unread.passed_on(25),
+            Refusal::NameTaken => (26, 0, 0),
             Refusal::NotFound => (27, 0, 0),
             Refusal::Radio(unread) => unread.passed_on(31),
             Refusal::TooLong => (33, 0, 0),
@@ -55,6 +57,15 @@ pub fn count(file: &[u8]) -> Result<usize, Refusal> {
 struct Opened {
     place: Range<usize>,
     fields: Fields,
+}
+
+/// What names a record: the type and the message number.
+type Name = (u16, u32);
+
+impl Opened {
+    fn name(&self) -> Name {
+        (self.fields.message_type, self.fields.number)
+    }
 }
 
 fn open<S: Sum>(file: &[u8], record: usize) -> Result<Opened, Refusal> {
@@ -82,11 +93,19 @@ pub struct Bad {
     pub refusal: Refusal,
 }
 
-/// The number of records if all are good, or the first bad one.
+/// The number of records if all are good and no two have one name, or the first that is bad or has the name of an
+/// earlier one.
 pub fn check<S: Sum>(file: &[u8]) -> Result<usize, Bad> {
     let count = count(file).map_err(|refusal| Bad { record: 0, refusal })?;
+    let mut names: Vec<Name> = Vec::new();
     for record in 0..count {
-        open::<S>(file, record).map_err(|refusal| Bad { record, refusal })?;
+        let bad = |refusal| Bad { record, refusal };
+        let name = open::<S>(file, record).map_err(bad)?.name();
+        // All records before this one are good, so that each of them has a name.
+        if names.contains(&name) {
+            return Err(bad(Refusal::NameTaken));
+        }
+        names.push(name);
     }
     Ok(count)
 }
@@ -187,6 +206,8 @@ pub fn line<S: Sum>(file: &[u8], record: usize) -> Result<Line, Refusal> {
 
 #[cfg(test)]
 mod beginnings;
+#[cfg(test)]
+mod names;
 
 #[cfg(test)]
 mod tests {

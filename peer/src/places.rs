@@ -1,7 +1,7 @@
 //! The sentences of change request K2: each refusal of reading has its place, and whoever passes it on passes the place on.
 
 use crate::cases::placed::{self, Placed};
-use crate::cases::{listed_file, shortest};
+use crate::cases::{listed_file, named, record_of, shortest};
 use crate::crc::Division;
 use crate::draw::damage::{damaged, DAMAGES};
 use crate::envelope::{read, Unread};
@@ -19,13 +19,11 @@ fn short(numbers: &[u8]) -> Vec<Placed> {
     placed
 }
 
-/// A file of so many good records, and behind them one that stores these bytes.
+/// A file of so many good records, each with a name of its own, and behind them one that stores these bytes.
 fn behind_good(count: usize, bytes: &[u8]) -> Vec<u8> {
-    let mut file = listed_file()[..RECORD].repeat(count);
-    file.extend((bytes.len() as u16).to_be_bytes());
-    file.extend(bytes);
-    file.resize((count + 1) * RECORD, 0);
-    file
+    let mut messages: Vec<Vec<u8>> = (0..count).map(|number| named(6001, number as u32)).collect();
+    messages.push(bytes.to_vec());
+    messages.iter().flat_map(|message| record_of(message)).collect()
 }
 
 /// A data message around these bytes, be they a message or not.
@@ -124,8 +122,8 @@ fn refusal_67_passes_the_place_on() {
 
 #[test]
 fn a_refusal_without_a_number_of_reading_has_place_0() {
-    use golden::Refusal::{Buffer, NoRecord, NotAFile, NotClear, NotFound, StoredLength, TooLong};
-    for refusal in [NotAFile, NoRecord, StoredLength, NotClear, NotFound, TooLong, Buffer] {
+    use golden::Refusal::{Buffer, NameTaken, NoRecord, NotAFile, NotClear, NotFound, StoredLength, TooLong};
+    for refusal in [NotAFile, NoRecord, StoredLength, NotClear, NameTaken, NotFound, TooLong, Buffer] {
         assert!(matches!(refusal.numbers(), (21..=35, 0, 0)), "{refusal:?}");
     }
     use frame::Refusal::{Length, NoEtx, NoRoom, NoStx, TooShort, Type, Version};

@@ -7,6 +7,7 @@ mod judges;
 mod works;
 
 use crate::loaded::Before;
+use peer::envelope::SHORTEST;
 use peer::golden::LONGEST_MESSAGE;
 use std::hint::black_box;
 use std::process::ExitCode;
@@ -101,8 +102,13 @@ fn calls() {
             works::reading(kind, &works::message(flags, length, 1), before).measure(&columns);
         }
     }
-    let file = works::full_file();
-    works::checking(&file, before).measure(&columns);
+    for (flags, kind) in KINDS {
+        for length in [SHORTEST, LONGEST_MESSAGE] {
+            works::checking(kind, length, &works::full_file(flags, length, 1), before).measure(&columns);
+        }
+    }
+    let file = works::full_file(8, LONGEST_MESSAGE, 256);
+    works::checking("CRC, numbers 256 apart", LONGEST_MESSAGE, &file, before).measure(&columns);
     works::comparing(&file, &works::message(8, LONGEST_MESSAGE, u32::MAX), before).measure(&columns);
 }
 

@@ -6,7 +6,7 @@ use crate::loaded::{Before, OtherSum};
 use crate::{mirror, ours};
 use peer::crc::{Division, Sum, Table};
 use peer::envelope::{self, SHORTEST, SHORTEST_VARIABLE};
-use peer::golden::{self, LONGEST_MESSAGE, MOST_RECORDS, RECORD};
+use peer::golden::{self, MOST_RECORDS, RECORD};
 use std::hint::black_box;
 
 pub fn summing(bytes: &[u8], before: Option<Before>) -> Row<'_> {
@@ -54,7 +54,7 @@ pub fn reading<'a>(kind: &str, message: &'a [u8], before: Option<Before>) -> Row
     Row { name: format!("reading {} bytes, {kind}", message.len()), sides }
 }
 
-pub fn checking(file: &[u8], before: Option<Before>) -> Row<'_> {
+pub fn checking<'a>(kind: &str, length: usize, file: &'a [u8], before: Option<Before>) -> Row<'a> {
     assert_eq!(usize::from(ours::check(file).count), MOST_RECORDS, "the file is not full of good records");
     let mut sides: Vec<(Side, Work)> = vec![
         (Side::Ours, repeated(|| ours::check(black_box(file)))),
@@ -65,7 +65,7 @@ pub fn checking(file: &[u8], before: Option<Before>) -> Row<'_> {
         assert_eq!(before.check(file), ours::check(file), "it was checked differently before");
         sides.push((Side::Before, repeated(move || before.check(black_box(file)))));
     }
-    Row { name: format!("checking {MOST_RECORDS} records of {LONGEST_MESSAGE} bytes, CRC"), sides }
+    Row { name: format!("checking {MOST_RECORDS} records of {length} bytes, {kind}"), sides }
 }
 
 pub fn comparing<'a>(file: &'a [u8], radio: &'a [u8], before: Option<Before>) -> Row<'a> {
@@ -123,10 +123,11 @@ pub fn message(flags: u8, length: usize, number: u32) -> Vec<u8> {
     message
 }
 
-pub fn full_file() -> Vec<u8> {
+/// As many records as a file may have, no two of one name: their numbers are so far apart.
+pub fn full_file(flags: u8, length: usize, apart: u32) -> Vec<u8> {
     let mut file = vec![0; MOST_RECORDS * RECORD];
-    for (number, record) in file.chunks_mut(RECORD).enumerate() {
-        golden::make::<Table>(&message(8, LONGEST_MESSAGE, number as u32), record).expect("the message is good");
+    for (place, record) in file.chunks_mut(RECORD).enumerate() {
+        golden::make::<Table>(&message(flags, length, place as u32 * apart), record).expect("the message is good");
     }
     file
 }

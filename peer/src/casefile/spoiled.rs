@@ -98,7 +98,7 @@ pub fn pairs(words: &mut Words, file: &mut [u8]) -> Answer {
 #[cfg(test)]
 mod tests {
     use super::*;
-    use crate::cases::{listed_file, shortest};
+    use crate::cases::{listed_file, named, record_of, shortest};
 
     type Command = fn(&mut Words, &mut [u8]) -> Answer;
 
@@ -109,12 +109,6 @@ mod tests {
         let answer = command(&mut Words::new(line.as_bytes()), &mut spoiled).expect("the line is right");
         assert_eq!(spoiled, file);
         answer
-    }
-
-    fn record_of(message: &[u8]) -> Vec<u8> {
-        let mut record = [&(message.len() as u16).to_be_bytes(), message].concat();
-        record.resize(RECORD, 0);
-        record
     }
 
     /// The counts that the acceptance run prints, told of the same file.
@@ -135,6 +129,17 @@ mod tests {
         assert_eq!(answer(pairs, &file, 0), "flipped 13695 refused 9600");
     }
 
+    /// One flip of number 3 makes it 1, which M has. Of two records with one name a flip of type or number is accepted,
+    /// 16 + 32, and no other.
+    #[test]
+    fn a_flip_that_makes_the_name_of_another_record_is_refused() {
+        let beside_m = |message: &[u8]| [record_of(&shortest()), record_of(message)].concat();
+        assert_eq!(answer(flips, &beside_m(&named(6000, 3)), 1), "flipped 166 refused 76");
+        assert_eq!(answer(flips, &beside_m(&named(6000, 6)), 1), "flipped 166 refused 75");
+        assert_eq!(answer(flips, &beside_m(&shortest()), 0), "flipped 166 refused 118");
+        assert_eq!(answer(flips, &beside_m(&shortest()), 1), "flipped 166 refused 118");
+    }
+
     /// Each place takes six edits. Three of them at the flags change the kind, and two at the place before.
     #[test]
     fn an_edit_reaches_the_byte_behind_the_message() {
@@ -148,7 +153,7 @@ mod tests {
         let mut message = shortest();
         message[4..8].copy_from_slice(&[0x10, 0, 1, 233]);
         message.resize(510, 0x11);
-        let file = [record_of(&message), record_of(&shortest())].concat();
+        let file = [record_of(&message), record_of(&named(6000, 2))].concat();
         let told = answer(edits, &file, 0);
         assert!(told.starts_with(&format!("edited {} refused ", 509 * 6 - 5)), "{told}");
     }

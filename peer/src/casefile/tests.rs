@@ -217,6 +217,23 @@ fn golden_commands_answer_as_told() {
 }
 
 #[test]
+fn a_name_that_comes_twice_is_told_by_check_alone() {
+    each(&[
+        (&format!("file record {M}"), "file: 512 bytes"),
+        ("file record 0417700100000001 00000001 00*5 55 00*4", "file: 1024 bytes"),
+        ("check it:", "check it: record 1 refused 26 0 0"),
+        ("find it: type 6000 number 1", "find it: record 0 opened 1"),
+        ("step it: at 1", "step it: message 514 22 next 2"),
+        ("walk it:", "walk it: message 2 21, message 514 22, end"),
+        ("entry it: at 1", "entry it: 6000 1 22"),
+        ("list it:", "list it: records 2; 0 6000 1 21; 1 6000 1 22"),
+        (&format!("compare it: record 1 list 9*4 with {M}"), "compare it: different 3 list 7 17 21 9"),
+        ("file change 525 02", "file: 1024 bytes"),
+        ("check two names:", "check two names: records 2"),
+    ]);
+}
+
+#[test]
 fn comparisons_and_new_records_answer_as_told() {
     let radio = "0417700100000001 00000001 00*5 55 00*4";
     let stored = "0015041770010000000000000001 00*498";

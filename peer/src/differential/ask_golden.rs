@@ -17,8 +17,11 @@ pub fn file(run: &mut Run, file: &[u8]) {
     let check = check(run, file);
     let walk = walk(run, file);
     run.holds("a walk goes as far as there are records", walk.count == records.count, &shown);
-    let expected = walk.first_bad.unwrap_or(records);
+    let expected = walk.first_refused.unwrap_or(records);
     run.holds("a check answers what a walk meets first", check == expected, &shown);
+    if check.number == 26 {
+        name_taken(run, file, check);
+    }
     let far = run.random.pick(&[128, 129, 1 << 32, 1 << 55, (1 << 55) + 1, usize::MAX / RECORD, usize::MAX]);
     step_and_line(run, file, far);
     for (message_type, number) in sought(run, file) {
@@ -32,20 +35,52 @@ pub fn check(run: &mut Run, file: &[u8]) -> Answer {
     run.plain(Operation::Check, || ours::check(file), || mirror::check(file), &|| format!("file {}", hex(file)))
 }
 
+/// What a check that answers 26 says of the file: as far as the record refused all is well, and nothing behind it counts.
+fn name_taken(run: &mut Run, file: &[u8], answer: Answer) {
+    let shown = || format!("{answer:?}, file {}", hex(file));
+    let record = usize::from(answer.count);
+    let before = check(run, &file[..record * RECORD]);
+    let passes = before == Answer { count: answer.count, ..Answer::default() };
+    run.holds("the records before one refused by 26 pass the check", passes, &shown);
+    let cut = check(run, &file[..(record + 1) * RECORD]);
+    run.holds("no record behind one refused by 26 is judged", cut == answer, &shown);
+    let (line, told) = line(run, file, record);
+    run.holds("a record refused by 26 is good", line.number == 0, &shown);
+    let found = find(run, file, told[0] as u16, told[1] as u32);
+    let earlier = found.number == 0 && found.value < u32::from(answer.count);
+    run.holds("with 26 a search for the name gives an earlier record", earlier, &shown);
+}
+
+/// A type and a message number.
+type Name = [u64; 2];
+
+#[derive(Default)]
 struct Walk {
     count: u16,
+    /// Those of the good records so far.
+    names: Vec<Name>,
     /// The first refusal met, as a check answers it.
-    first_bad: Option<Answer>,
+    first_refused: Option<Answer>,
+}
+
+impl Walk {
+    /// A bad record is refused as its step is, and a good one by 26 if its name was met before.
+    fn meet(&mut self, step: Answer, name: Option<Name>) {
+        let taken = name.is_some_and(|name| self.names.contains(&name));
+        let refused = if taken { Answer { number: 26, ..Answer::default() } } else { step };
+        if refused.number != 0 && self.first_refused.is_none() {
+            self.first_refused = Some(Answer { count: self.count, ..refused });
+        }
+        self.names.extend(name);
+    }
 }
 
 /// Walks from the first record until the walk stays where it is.
 fn walk(run: &mut Run, file: &[u8]) -> Walk {
-    let mut walk = Walk { count: 0, first_bad: None };
+    let mut walk = Walk::default();
     loop {
-        let step = step_and_line(run, file, usize::from(walk.count));
-        if step.number != 0 && walk.first_bad.is_none() {
-            walk.first_bad = Some(Answer { count: walk.count, ..step });
-        }
+        let (step, name) = step_and_line(run, file, usize::from(walk.count));
+        walk.meet(step, name);
         if step.count == 0 {
             return walk;
         }
@@ -53,8 +88,8 @@ fn walk(run: &mut Run, file: &[u8]) -> Walk {
     }
 }
 
-/// One record by a step and by a line, which must tell the same.
-fn step_and_line(run: &mut Run, file: &[u8], record: usize) -> Answer {
+/// One record by a step and by a line, which must tell the same; of a good one the name as well.
+fn step_and_line(run: &mut Run, file: &[u8], record: usize) -> (Answer, Option<Name>) {
     let shown = || format!("record {record}, file {}", hex(file));
     let (step, part) = run.beside(
         Operation::Step,
@@ -75,7 +110,7 @@ fn step_and_line(run: &mut Run, file: &[u8], record: usize) -> Answer {
         _ => answer == Answer { count: 0, ..step },
     };
     run.holds("a step and a line tell the same", same, &shown);
-    step
+    (step, (answer.number == 0).then_some([line[0], line[1]]))
 }
 
 /// The message of a record that is there, by its stored length.

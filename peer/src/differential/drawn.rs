@@ -18,7 +18,7 @@ pub struct Family {
 }
 
 /// The quick ones first, so that each operation is met early.
-pub const FAMILIES: [Family; 19] = [
+pub const FAMILIES: [Family; 21] = [
     Family { name: "lateness", weight: 50, one: lateness },
     Family { name: "sequence", weight: 50, one: sequence },
     Family { name: "QoS joins", weight: 40, one: qos_join },
@@ -33,6 +33,8 @@ pub const FAMILIES: [Family; 19] = [
     Family { name: "comparisons", weight: 90, one: comparison },
     Family { name: "golden files of 0 to 8 records", weight: 60, one: short_file },
     Family { name: "golden files of odd lengths or many records", weight: 3, one: long_or_odd_file },
+    Family { name: "golden files of 2 to 8 records with a name twice", weight: 40, one: short_doubled_file },
+    Family { name: "golden files of many records with a name twice", weight: 3, one: long_doubled_file },
     Family { name: "good orders", weight: 70, one: good_order },
     Family { name: "damage within four bytes of a CRC message", weight: 100, one: within_a_window },
     Family { name: "damaged messages", weight: 250, one: damaged },
@@ -131,6 +133,19 @@ fn long_or_odd_file(run: &mut Run) {
     let records = run.random.between(9, MOST_RECORDS);
     let random = &mut run.random;
     let file = if random.once_in(2) { inputs::odd_file(random) } else { inputs::file(random, records) };
+    ask_golden::file(run, &file);
+}
+
+fn short_doubled_file(run: &mut Run) {
+    let records = run.random.between(2, 8);
+    let file = inputs::doubled_file(&mut run.random, records);
+    ask_golden::file(run, &file);
+}
+
+fn long_doubled_file(run: &mut Run) {
+    let random = &mut run.random;
+    let records = if random.once_in(2) { MOST_RECORDS } else { random.between(9, MOST_RECORDS) };
+    let file = inputs::doubled_file(random, records);
     ask_golden::file(run, &file);
 }
 

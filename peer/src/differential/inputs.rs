@@ -221,13 +221,8 @@ pub fn record_of(length: usize, message: &[u8]) -> Vec<u8> {
     record
 }
 
-fn good_record(random: &mut Random) -> Vec<u8> {
-    let message = message(random, LONGEST_MESSAGE);
-    record_of(message.len(), &message)
-}
-
-fn bad_record(random: &mut Random) -> Vec<u8> {
-    let message = message(random, LONGEST_MESSAGE);
+/// A record of this message that is seldom good.
+fn bad_record(random: &mut Random, message: Vec<u8>) -> Vec<u8> {
     match random.up_to(6) {
         0 => record_of(random.pick(&[0, 1, 20, 511, 512, 513, 0x1500, 0xFFFF]), &message),
         1 => record_of(message.len() + 1, &message),
@@ -247,15 +242,77 @@ fn bad_record(random: &mut Random) -> Vec<u8> {
     }
 }
 
-/// A file of so many records: all good, or one or more of them bad.
-pub fn file(random: &mut Random, records: usize) -> Vec<u8> {
+/// So many orders for records, no two of them with one name, a type and a message number.
+fn orders(random: &mut Random, count: usize) -> Vec<Order> {
+    let mut orders: Vec<Order> = Vec::new();
+    while orders.len() < count {
+        let order = order(random, LONGEST_MESSAGE);
+        if !orders.iter().any(|other| (other.message_type, other.number) == (order.message_type, order.number)) {
+            orders.push(order);
+        }
+    }
+    orders
+}
+
+/// The file of these orders: all records good, or one or more of them bad.
+fn file_of(random: &mut Random, orders: &[Order]) -> Vec<u8> {
     let bad = match random.up_to(3) {
         0 | 1 => 0,
         2 => 1,
         _ => random.between(1, 3),
     };
-    let bad: Vec<usize> = (0..bad).map(|_| random.up_to(records)).collect();
-    (0..records).flat_map(|at| if bad.contains(&at) { bad_record(random) } else { good_record(random) }).collect()
+    let bad: Vec<usize> = (0..bad).map(|_| random.up_to(orders.len())).collect();
+    let mut file = Vec::new();
+    for (at, message) in orders.iter().map(written).enumerate() {
+        file.extend(if bad.contains(&at) { bad_record(random, message) } else { record_of(message.len(), &message) });
+    }
+    file
+}
+
+/// A file of so many records, whose good ones have a name each.
+pub fn file(random: &mut Random, records: usize) -> Vec<u8> {
+    let orders = orders(random, records);
+    file_of(random, &orders)
+}
+
+/// A file of two records or more, of which a later one has the name of an earlier one, or nearly.
+pub fn doubled_file(random: &mut Random, records: usize) -> Vec<u8> {
+    let mut orders = orders(random, records);
+    let (earlier, later) = two_places(random, records);
+    double(random, &mut orders, earlier, later);
+    file_of(random, &orders)
+}
+
+/// The first and the last of so many records, two next to each other, or any two.
+fn two_places(random: &mut Random, records: usize) -> (usize, usize) {
+    let later = random.between(1, records - 1);
+    match random.up_to(3) {
+        0 => (0, records - 1),
+        1 => (later - 1, later),
+        _ => (random.up_to(later - 1), later),
+    }
+}
+
+/// Puts the earlier order's name, or a part of it, into the later one.
+fn double(random: &mut Random, orders: &mut [Order], earlier: usize, later: usize) {
+    let (message_type, number) = (orders[earlier].message_type, orders[earlier].number);
+    match random.up_to(8) {
+        0 => orders[later].message_type = message_type,
+        1 => orders[later].number = number,
+        2 => rename(&mut orders[later], message_type ^ 1 << random.up_to(15), number),
+        3 => rename(&mut orders[later], message_type, number ^ 1 << random.up_to(31)),
+        4 => orders[later] = orders[earlier].clone(),
+        _ => rename(&mut orders[later], message_type, number),
+    }
+    // Three of one name, unless it is one of the two.
+    if random.once_in(4) {
+        let third = random.up_to(orders.len() - 1);
+        rename(&mut orders[third], message_type, number);
+    }
+}
+
+fn rename(order: &mut Order, message_type: u16, number: u32) {
+    (order.message_type, order.number) = (message_type, number);
 }
 
 /// A file whose length is seldom right.

@@ -12,6 +12,7 @@ mod fixed;
 mod fixed_feed;
 mod fixed_frame;
 mod fixed_judge;
+mod fixed_names;
 mod fixed_places;
 mod frame_inputs;
 mod inputs;
@@ -58,6 +59,7 @@ pub fn command(words: &[String]) -> Option<ExitCode> {
     fixed_judge::short(&mut run);
     fixed_frame::short(&mut run);
     fixed_places::short(&mut run);
+    fixed_names::short(&mut run);
     drawn(&mut run, options.count);
     fixed::long(&mut run);
     println!("answers, with how often each came:");

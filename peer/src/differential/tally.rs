@@ -119,9 +119,14 @@ impl Tally {
         required().into_iter().filter(|key| !self.came.contains_key(key)).collect()
     }
 
-    /// The answers that came up and must not: no message is longer than a frame can state.
+    /// The answers that came up and must not: no message is longer than a frame can state, and a check alone gives 26.
     pub fn impossible(&self) -> Vec<(Operation, Outcome)> {
-        self.came.keys().filter(|(_, outcome)| matches!(outcome, Outcome::Refused(69))).copied().collect()
+        let impossible = |operation, outcome| match outcome {
+            Outcome::Refused(69) => true,
+            Outcome::Refused(26) => operation != Operation::Check,
+            _ => false,
+        };
+        self.came.keys().copied().filter(|&(operation, outcome)| impossible(operation, outcome)).collect()
     }
 }
 
@@ -146,7 +151,7 @@ const REQUIRED: [Required; 26] = {
         (Judge, &["none broken"], &[]),
         (JudgePlaces, &["none broken"], &[]),
         (Records, &["done"], &[21]),
-        (Check, &["done"], &[21, 23, 24, 25]),
+        (Check, &["done"], &[21, 23, 24, 25, 26]),
         (Find, &["done"], &[21, 23, 24, 25, 27]),
         (Line, &["done"], &[21, 22, 23, 24, 25]),
         (Step, &["message", "end"], &[21, 23, 24, 25]),

@@ -44,6 +44,25 @@ pub fn good_file(random: &mut Random) -> Scene {
         "pairs of a short message: record 2".to_string(),
     ]);
     scene.extend(comparisons(random, at, &sketches[at].message()));
+    scene.extend(doubled(random, &sketches[at]));
+    scene
+}
+
+/// A fourth record with the name of one of the three: a check refuses it, and all else goes on as before.
+fn doubled(random: &mut Random, earlier: &Sketch) -> Scene {
+    let mut later = if random.once_in(4) { earlier.clone() } else { Sketch::any(random) };
+    (later.message_type, later.number) = (earlier.message_type, earlier.number);
+    let others = vec![
+        format!("find a name that comes twice: {}", sought(earlier)),
+        "step at the later of two: at 3".to_string(),
+        "walk a name that comes twice:".to_string(),
+        "entry of the later of two: at 3".to_string(),
+        "list a name that comes twice:".to_string(),
+        "flips of the later of two: record 3".to_string(),
+        format!("compare the later of two: record 3 list 5*9 with {}", spelled(random, &earlier.message())),
+    ];
+    let mut scene = vec![record_line(random, &later.message()), "check a name that comes twice:".to_string()];
+    scene.extend(some(random, 1, others));
     scene
 }
 
@@ -56,12 +75,12 @@ fn comparisons(random: &mut Random, record: usize, golden: &[u8]) -> Scene {
     let (mark, more, fewer) = (random.number(), places + random.between(1, 40), random.up_to(places - 1));
     let shown = spelled(random, &changed);
     let others = vec![
+        format!("compare a long list: record {record} list {mark}*{more} with {shown}"),
         format!("compare a short list: record {record} list {mark}*{fewer} with {shown}"),
         format!("compare another message: record {record} list 1 2 3*30 {mark} with {}", spelled(random, &other)),
     ];
     let mut scene = vec![
         format!("compare with itself: record {record} list {mark}*3 with {}", spelled(random, golden)),
-        format!("compare a long list: record {record} list {mark}*{more} with {shown}"),
         format!("compare {}: record {record} list {mark} 7 with {}", damage.name(), spelled(random, &bad)),
         format!("compare no record: record 3 list {mark} with {shown}"),
     ];
@@ -80,9 +99,13 @@ fn changed(random: &mut Random, golden: &[u8]) -> (Vec<u8>, usize) {
     (message, places)
 }
 
-/// A way for the second of three records to be bad: its name, and the lines that make it up.
-fn bad_record(random: &mut Random, refusal: u8) -> (String, Scene) {
+/// A way for the second of three records to be bad: what it is called, and the lines that make it up.
+fn bad_record(random: &mut Random, refusal: u8, first: &Sketch) -> (String, Scene) {
     let mut sketch = Sketch::any(random);
+    // It is refused for being bad, also where it has the name of the first.
+    if random.once_in(2) {
+        (sketch.message_type, sketch.number) = (first.message_type, first.number);
+    }
     // Some room is left in the record behind the message.
     sketch.body.truncate(40);
     let mut scene = vec![record_line(random, &sketch.message())];
@@ -110,13 +133,13 @@ fn bad_record(random: &mut Random, refusal: u8) -> (String, Scene) {
     }
 }
 
-/// A good record, one that is refused with this number, and a good one.
-pub fn bad_file(random: &mut Random, refusal: u8) -> Scene {
+/// A good record, one that is refused with this number, and a good one. Of 24 and 25 one is asked more about.
+fn bad_file(random: &mut Random, refusal: u8, more: u8) -> Scene {
     let mut first = Sketch::any(random);
     first.number = first.number.max(1);
     let mut last = Sketch::any(random);
     last.number = first.number - 1;
-    let (name, bad) = bad_record(random, refusal);
+    let (name, bad) = bad_record(random, refusal, &first);
     let mut scene = vec!["file new".to_string(), record_line(random, &first.message())];
     scene.extend(bad);
     scene.push(record_line(random, &last.message()));
@@ -132,12 +155,11 @@ pub fn bad_file(random: &mut Random, refusal: u8) -> Scene {
         format!("{} of {name}: record 1", random.pick(&["edits", "flips", "pairs"])),
         format!("flips beside {name}: record {}", random.pick(&[0, 2])),
     ];
-    match refusal {
-        23 => {
-            scene.push(format!("find before {name}: {}", sought(&first)));
-            scene.extend(whole);
-        }
-        _ => scene.extend(some(random, 1, [whole, spoiled].concat())),
+    if refusal == 23 {
+        scene.push(format!("find before {name}: {}", sought(&first)));
+        scene.extend(whole);
+    } else if refusal == more {
+        scene.extend(some(random, 1, [whole, spoiled].concat()));
     }
     scene
 }
@@ -164,11 +186,11 @@ pub fn odd_file(random: &mut Random) -> Scene {
     ]
 }
 
-/// A file of 129 records, and then one with no room for another.
+/// A file of 128 records or of 129 is asked about, and then there is no room for another.
 pub fn long_file(random: &mut Random) -> Scene {
     let message = Sketch::any(random).message();
     let more = random.between(1, RECORD);
-    vec![
+    let mut scene = vec![
         "file new".to_string(),
         "file zeros 65536".to_string(),
         "check 128 records of zeros:".to_string(),
@@ -176,7 +198,9 @@ pub fn long_file(random: &mut Random) -> Scene {
         format!("{} 129 records:", random.pick(&["check", "walk"])),
         format!("file zeros {more}"),
         record_line(random, &message),
-    ]
+    ];
+    scene.remove(random.pick(&[2, 4]));
+    scene
 }
 
 pub fn empty_file(random: &mut Random) -> Scene {
@@ -216,5 +240,6 @@ pub fn mended_file(random: &mut Random) -> Scene {
 
 /// The scene of a record of each refusal.
 pub fn bad_files(random: &mut Random) -> Vec<Scene> {
-    [23, 24, 25].map(|refusal| bad_file(random, refusal)).to_vec()
+    let more = random.pick(&[24, 25]);
+    [23, 24, 25].map(|refusal| bad_file(random, refusal, more)).to_vec()
 }

@@ -124,13 +124,14 @@ mod tests {
     }
 
     /// What a line that begins so must hold in some answer of every drawn file; `..` stands for a number that is drawn.
-    const MET: [(&str, &str); 41] = [
+    const MET: [(&str, &str); 43] = [
         ("sum", "no bytes: 0 00000000|spaces all over"),
         ("read", "integrity none|integrity crc|integrity application| unaddressed | ttl "),
         ("read", ": refused 1 |: refused 2 0|: refused 3 4|: refused 4 16|: refused 5 5|: refused 6 21|: refused 7 "),
         ("judge", ": 1 broken at 0 2 not judged 3 not | 5 kept 6 kept 7 kept none broken"),
         ("judge", " 2 broken at 0 3 broken at 4 4 broken at 16 5 broken at 5 6 not judged 7 broken at .. lowest 2 0"),
-        ("judge", " 6 kept 7 kept lowest 5 5| 6 broken at 21 7 broken at .. lowest 6 21| 6 not judged 7 kept none broken"),
+        ("judge", " 6 kept 7 kept lowest 5 5| 6 not judged 7 kept none broken"),
+        ("judge", " 6 broken at 21 7 broken at .. lowest 6 21"),
         ("unwrap", ": data commid |: acknowledgment commid |: refused 61 0 0|: refused 62 0 0|: refused 63 0 0"),
         ("unwrap", ": refused 64 0 0|: refused 65 0 0|: refused 66 0 0|: refused 67 "),
         ("wrap", ": wrote |: refused 67 |: refused 68 0 0 ["),
@@ -143,7 +144,8 @@ mod tests {
         ("sequence", " repeat| next| ahead | behind 2147483648"),
         ("file:", " 0 bytes| 512 bytes| 1024 bytes| 65536 bytes| 66048 bytes"),
         ("check", ": records 0|: records 3|record 0 refused 21 0 0|record 1 refused 23 0 0"),
-        ("check", "record 1 refused 24 0 0|record 1 refused 25 |damaged: record 0 refused 25 |mended: records 1"),
+        ("check", "record 1 refused 24 0 0|record 1 refused 25 |twice: record 3 refused 26 0 0"),
+        ("check", "damaged: record 0 refused 25 |mended: records 1"),
         ("find", "record 0 opened 1|refused 27 0 0 opened 3|refused 27 0 0 opened 0|refused 21 0 0 opened 0"),
         ("find", "refused 23 0 0 opened 2|refused 24 0 0 opened 2|refused 25 "),
         ("step", ": message |: end next |refused 21 0 0 next |refused 23 0 0 next 2|refused 24 0 0 next 2"),

@@ -2,7 +2,7 @@
 //! length in its first 17 bytes. So a comparison, which has accepted both, needs no refusal for it.
 
 use super::*;
-use crate::cases;
+use crate::cases::{self, record_of};
 use crate::crc::Division;
 use crate::draw::sketch::{seal, Sketch};
 use crate::envelope::{heading, read, COMMON, SHORTEST};
@@ -38,13 +38,6 @@ fn extended(random: &mut Random, message: &[u8], other: &[u8]) -> [Vec<u8>; 5] {
     let size = random.between(2, 600);
     let behind = [vec![0], random.bytes(1), vec![0; 4], random.bytes(size), other.to_vec()];
     behind.map(|behind| [message, &behind].concat())
-}
-
-/// A record that stores these bytes, be they a message or not.
-fn record_of(bytes: &[u8]) -> Vec<u8> {
-    let mut record = [&(bytes.len() as u16).to_be_bytes(), bytes].concat();
-    record.resize(RECORD, 0);
-    record
 }
 
 #[test]
