@@ -45,8 +45,8 @@ static inline unsigned morlewen_count(uint64_t answer) { return (unsigned)(answe
 static inline uint32_t morlewen_value(uint64_t answer) { return (uint32_t)(answer >> 32); }
 
 /* The refusals. Where several apply to one message, record or frame, the one that stands first here is given, but by a feed the
- * one that its bytes settle first. Records are opened from the first, and the first that is refused decides: morlewen_check goes
- * on to the last, morlewen_find stops at a match, and the others open the one that they are asked for. */
+ * one that its bytes settle first. Of the records that a call opens the first that is refused decides: morlewen_check opens them
+ * in order up to that one or to the last, morlewen_find up to a match too, and the others open the one that they are asked for. */
 enum {
     MORLEWEN_DONE = 0,
     /* reading a message; each has a place */
@@ -213,9 +213,9 @@ uint64_t morlewen_judge_places(const uint8_t *bytes, size_t length, uint8_t verd
 /* How many records there are, good or bad. Done: `count`. Refused: 21. */
 uint64_t morlewen_records(const uint8_t *file, size_t length);
 
-/* Checks every record, one after the other. Done: all are good, no two have one type and message number, and `count` is how many.
- * Refused: 21, or 23 to 26 for the first record that is bad or has the type and number of an earlier one; its number is in
- * `count` (0 with 21). With 26 morlewen_find of that type and number gives the earlier one. */
+/* Checks every record, one after the other. Done: all are good, no two have the same type and message number, and `count` is how
+ * many. Refused: 21, or 23 to 26 for the first record that is bad or has the type and number of an earlier one; its number is in
+ * `count` (0 with 21). With 26 morlewen_line of that record tells both, and morlewen_find of them gives the earlier one. */
 uint64_t morlewen_check(const uint8_t *file, size_t length);
 
 /* Opens records from the first, until one is bad or has this type and message number. `count` is how many were opened,

@@ -85,7 +85,7 @@ fn refuse_checked(manner: Manner, file: &[u8], record: usize, refusal: Refusal) 
     }
 }
 
-// With the record's name, by which find gives the earlier one.
+// With the record's name, by which find gives the earlier one: golden/Theorems `RefusesTheLater`, `EarlierIsFound`, so the other arms are not met.
 fn refuse_taken(manner: Manner, file: &[u8], record: usize, refusal: Refusal) -> Status {
     match entry_at(file, record) {
         Entry::Good {

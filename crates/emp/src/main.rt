@@ -51,7 +51,7 @@ make MESSAGE\tthe record of 512 bytes that holds a message, to standard output\t
 unwrap FRAME\ta frame: what it is, its COMMIDs, and its message as read tells it; of a capture, which is frames end to end, a line for each, up to the first refused\tdata FRAME PLACE COMMID TYPE NUMBER LENGTH, acknowledgment FRAME PLACE COMMID ACKNOWLEDGED, or refused FRAME PLACE REFUSAL READING MESSAGE-PLACE FILE-PLACE
 wrap COMMID MESSAGE\tthe data message, with that COMMID, that carries a message, to standard output\tthe frame, or on standard error refused REFUSAL READING PLACE
 acknowledge COMMID ACKNOWLEDGED\tthe acknowledgment, with a COMMID of its own, of the COMMID ACKNOWLEDGED, to standard output\tthe frame
-watch [GOLDEN]\tevery message of standard input the moment its last byte is in, and the record of its type and number: same, or in how many places the two differ\tmessage MESSAGE TYPE NUMBER LENGTH DISTANCE RECORD DIFFERING, or refused MESSAGE BYTES REFUSAL READING PLACE STREAM-PLACE; of a bad GOLDEN what check tells
+watch [GOLDEN]\tevery message of standard input the moment its last byte is in, and the record of its type and number: same, or in how many places the two differ\tmessage MESSAGE TYPE NUMBER LENGTH DISTANCE RECORD DIFFERING, or refused MESSAGE BYTES REFUSAL READING PLACE STREAM-PLACE; of a GOLDEN that check refuses what check tells
 help [COMMAND]\tthis, or what a command does\tthe form of each command
 ",
         b"--plain\n-q\n--help\n-h\n--version\n--\n",

@@ -17,7 +17,7 @@ use Rattle.golden.specs.Stepping.{StepAnswer, message, end, stepAt, nextAfter}
 use Rattle.golden.specs.Stepping as step
 use Rattle.exports.specs.Word.{Slots, slots, word, done, sized, refusedWith}
 
--- ---- count and check: the count is that of the records, or the bad record's number
+-- ---- count and check: the count is that of the records, or the refused record's number
 
 abbrev pub countSlots : CountAnswer → Slots
 countSlots (listing.counted n) = slots 0 0 n 0

@@ -17,7 +17,7 @@ use Rattle.golden.specs.File.{badFile, countOf, judgedAt}
 use Rattle.golden.specs.Finding.{NameFields, hasName, nameOf, FindAnswer, found, finding}
 use Rattle.golden.specs.Pairing.{isNamed, pairs}
 use Rattle.golden.specs.Record.{Judged, good, bad}
-use Rattle.golden.specs.Theorems.{GoodAt, Sound, Passed, CheckedAreSound, SoundAreChecked, FirstBad, not-a-file, bad-record, repeated, CheckNamesTheFirst, FirstBadIsNamed, OneName, NoTwoOfOneName, Later, RefusesTheLater, LaterIsRefused, EarlierIsFound, TakenOut, FewerStillPass, NotNamed, FirstNamed, first, none, FindsTheFirst, TheOne, one, FindsTheOne, FindReason, no-file, first-bad, first-named, none-named}
+use Rattle.golden.specs.Theorems.{GoodAt, Sound, Passed, CheckedAreSound, SoundAreChecked, FirstRefused, not-a-file, bad-record, repeated, CheckNamesTheFirst, FirstRefusedIsNamed, OneName, NoTwoOfOneName, Later, RefusesTheLater, LaterIsRefused, NamedBy, AnyTwoAreRefused, EarlierIsFound, TakenOut, FewerStillPass, NotNamed, FirstNamed, first, none, FindsTheFirst, TheOne, one, FindsTheOne, FindReason, no-file, first-bad, first-named, none-named}
 use Rattle.golden.proofs.FileLaws.{one-more, same-judged, bad-gives}
 use Rattle.golden.proofs.FoundLaws.{find-gives-its-reason, reason-settles-find}
 use Rattle.golden.proofs.NameLaws.{has-its-own-name}
@@ -57,7 +57,7 @@ module _ (f : List ℕ) where
 -- why check answers as it does
 data Verdict (f : List ℕ) : CheckAnswer → Type 0 where
   passes : Passed f (countOf f) → Verdict f (counted (countOf f))
-  refuses : (n : ℕ) (r : Refused) → FirstBad f n r → Verdict f (check.refused n r)
+  refuses : (n : ℕ) (r : Refused) → FirstRefused f n r → Verdict f (check.refused n r)
 
 module _ (f : List ℕ) (h : badFile f ≡ false) where
   verdict-here : (k : ℕ) → k < countOf f → Sound f k → (b : Bool) → repeats f k ≡ b → (j : Judged) → judgedAt f k ≡ j → (others : CheckAnswer)
@@ -94,7 +94,7 @@ checked-are-sound f n e = by (checking f) (verdict f) e
 pub check-names-the-first : CheckNamesTheFirst
 check-names-the-first f n r e = by (checking f) (verdict f) e
   where
-    by : (a : CheckAnswer) → Verdict f a → a ≡ check.refused n r → FirstBad f n r
+    by : (a : CheckAnswer) → Verdict f a → a ≡ check.refused n r → FirstRefused f n r
     by _ (passes a) q = absurd (let z : _≡_ {A = ℕ} 0 1 = cc in omega arith)
     by _ (refuses k x b) q =
         let en : k ≡ n = cc in
@@ -123,13 +123,13 @@ pub sound-are-checked : SoundAreChecked
 unfolding checkFrom
 sound-are-checked f n a = check-goes-to f n 0 (a .whole) (omega (arith, a .count)) (a .sound)
 
-pub first-bad-is-named : FirstBadIsNamed
+pub first-refused-is-named : FirstRefusedIsNamed
 unfolding checking checkFrom
-first-bad-is-named f _ _ (not-a-file h) = rw h
-first-bad-is-named f n r (bad-record _ _ h l j s) =
+first-refused-is-named f _ _ (not-a-file h) = rw h
+first-refused-is-named f n r (bad-record _ _ h l j s) =
     let left = countOf f - (n + 1) in
     check-goes-to f n (suc left) h (omega arith) s ∙ ap (λ (x : Judged). unlessBad n (repeats f n) x (checkFrom f (n + 1) left)) j
-first-bad-is-named f _ _ (repeated i n h l g b p s) =
+first-refused-is-named f _ _ (repeated i n h l g b p s) =
     let left = countOf f - (n + 1) in
     check-goes-to f n (suc left) h (omega arith) s ∙ rw (g .judged, one-earlier f i n b p)
 
@@ -163,7 +163,7 @@ pairs-one-name f i k (bad r) y ex ey p = absurd (true-is-not-false p refl)
 abbrev If26 : List ℕ → ℕ → Refused → Type 0
 If26 f k r = r ≡ plainly 26 → Later f k
 
-of-26 : (f : List ℕ) (k : ℕ) (r : Refused) → FirstBad f k r → If26 f k r
+of-26 : (f : List ℕ) (k : ℕ) (r : Refused) → FirstRefused f k r → If26 f k r
 of-26 f _ _ (not-a-file h) e = absurd (let z = ap (λ (x : Refused). numbersOf x .number) e in omega (arith, z))
 of-26 f k r (bad-record _ _ h l j s) e = absurd (true-is-not-false (subst (Gives (23 ∷ 24 ∷ []) (25 ∷ [])) e (bad-gives f k r j)) refl)
 of-26 f _ _ (repeated i k h l g b p s) e =
@@ -175,8 +175,28 @@ refuses-the-later f k e = of-26 f k (plainly 26) (check-names-the-first f k (pla
 pub later-is-refused : LaterIsRefused
 later-is-refused f k h w =
     let o = w .one-name in
-    first-bad-is-named f k (plainly 26)
+    first-refused-is-named f k (plainly 26)
     (repeated (w .earlier) k h (w .there) (record { fields = o .second; judged = o .second-good }) (w .before) (one-name-pairs f (w .earlier) k o) (w .sound))
+
+pub any-two-are-refused : AnyTwoAreRefused
+any-two-are-refused f i k h a l good-to o = by (checking f) refl (verdict f)
+  where
+    pair : pairs (judgedAt f k) (judgedAt f i) ≡ true
+    pair = one-name-pairs f i k o
+
+    sound-so-far : (m : ℕ) → Sound f m → k < m → NamedBy f k
+    sound-so-far m s b = absurd (true-is-not-false pair (s .apart i k a b))
+
+    of : (m : ℕ) (r : Refused) → checking f ≡ check.refused m r → FirstRefused f m r → Dec (k < m) → NamedBy f k
+    of _ _ e (not-a-file q) d = absurd (true-is-not-false q h)
+    of m r e (bad-record _ _ q b j s) (yes d) = sound-so-far m s d
+    of m r e (bad-record _ _ q b j s) (no d) = absurd (bad-is-not-good (sym j ∙ good-to m (omega arith) .judged))
+    of _ _ e (repeated x m q b g z p s) (yes d) = sound-so-far m s d
+    of _ _ e (repeated x m q b g z p s) (no d) = record { later = m; not-past = omega arith; refuses = e }
+
+    by : (x : CheckAnswer) → checking f ≡ x → Verdict f x → NamedBy f k
+    by _ e (passes p) = sound-so-far (countOf f) (p .sound) l
+    by _ e (refuses m r b) = of m r e b (decLt k m)
 
 -- a name that is new to the records before it is new to find too
 not-yet : (f : List ℕ) (i k : ℕ) (name : NameFields) (earlier : Fields) → judgedAt f k ≡ good earlier → nameOf earlier ≡ name → GoodAt f i

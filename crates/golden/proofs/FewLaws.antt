@@ -23,7 +23,7 @@ use Rattle.golden.specs.Listing.{counting}
 use Rattle.golden.specs.Listing as listing
 use Rattle.golden.specs.Record.{headSize, messageRoom, storedLength, messageOf, Judged, good, bad}
 use Rattle.golden.specs.Stepping.{StepAnswer, stepOf, stepAt, nextAfter}
-use Rattle.golden.specs.Theorems.{FirstBad, not-a-file, bad-record, repeated, FindReason, no-file, first-bad, first-named, none-named, checkedNumber, CheckNamesFew, countedNumber, CountIsFew, openedNumber, foundNumber, FindOpensFew, reachedSize, StepReachesShort, StepGoesOnByOne, differenceTotal, CompareTotalsFew}
+use Rattle.golden.specs.Theorems.{FirstRefused, not-a-file, bad-record, repeated, FindReason, no-file, first-bad, first-named, none-named, checkedNumber, CheckNamesFew, countedNumber, CountIsFew, openedNumber, foundNumber, FindOpensFew, reachedSize, StepReachesShort, StepGoesOnByOne, differenceTotal, CompareTotalsFew}
 use Rattle.golden.proofs.CheckedLaws.{checked-are-sound, check-names-the-first}
 use Rattle.golden.proofs.ComparingLaws.{longer-below}
 use Rattle.golden.proofs.FileLaws.{whole-file}
@@ -36,7 +36,7 @@ use Rattle.golden.proofs.SteppingLaws.{Reason, at-21, at-end, at-record
 pub check-names-few : CheckNamesFew
 check-names-few f = by (checking f) refl
   where
-    at : (n : ℕ) (r : Refused) → FirstBad f n r → n ≤ mostRecords
+    at : (n : ℕ) (r : Refused) → FirstRefused f n r → n ≤ mostRecords
     at _ _ (not-a-file h) = omega arith
     at n r (bad-record _ _ h l j before) = omega (arith, whole-file f h .few)
     at _ _ (repeated i n h l g b p before) = omega (arith, whole-file f h .few)

@@ -2,7 +2,7 @@ pub mod RecordLaws
 pub mod FileLaws
 pub mod NameLaws
 pub mod PairingLaws
-pub mod NotedLaws
+pub mod BucketLaws
 pub mod SelectLaws
 pub mod PositionLaws
 pub mod OpeningLaws

@@ -24,7 +24,7 @@ use Rattle.golden.specs.Making as make
 use Rattle.golden.specs.Record.{recordSize, messageRoom, storedLength, messageOf, badLength, notClear, Judged, good, bad, byReading, judging}
 use Rattle.golden.specs.Stepping.{StepAnswer, stepOf, stepAt}
 use Rattle.golden.specs.Stepping as step
-use Rattle.golden.specs.Theorems.{FirstBad, not-a-file, bad-record, repeated, FindReason, no-file, first-bad, first-named, none-named, CheckPassesOn, FindPassesOn, StepPassesOn, EntryPassesOn, ComparePassesOn, MakePassesOn}
+use Rattle.golden.specs.Theorems.{FirstRefused, not-a-file, bad-record, repeated, FindReason, no-file, first-bad, first-named, none-named, CheckPassesOn, FindPassesOn, StepPassesOn, EntryPassesOn, ComparePassesOn, MakePassesOn}
 use Rattle.golden.proofs.CheckedLaws.{check-names-the-first}
 use Rattle.golden.proofs.FileLaws.{bad-gives}
 use Rattle.golden.proofs.FoundLaws.{find-gives-its-reason}
@@ -58,7 +58,7 @@ bad-on f n x e = subst (JudgedOn (messageOf (recordAt f n))) e (judged-on f n)
 pub check-passes-on : CheckPassesOn
 check-passes-on f n number r e = at n (passingOn number r) (check-names-the-first f n (passingOn number r) e) number r refl
   where
-    at : (k : ℕ) (x : Refused) → FirstBad f k x → On (messageOf (recordAt f k)) x
+    at : (k : ℕ) (x : Refused) → FirstRefused f k x → On (messageOf (recordAt f k)) x
     at _ _ (not-a-file h) = on-plainly (messageOf (recordAt f 0)) 21
     at k x (bad-record _ _ h l j before) = bad-on f k x j
     at _ _ (repeated i k h l g b p before) = on-plainly (messageOf (recordAt f k)) 26

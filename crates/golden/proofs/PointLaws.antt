@@ -26,7 +26,7 @@ use Rattle.golden.specs.Making.{making, makingRead}
 use Rattle.golden.specs.Making as make
 use Rattle.golden.specs.Record.{headSize, recordSize, messageRoom, storedLength, messageOf, badLength, notClear, Judged, good, bad, byReading, judging}
 use Rattle.golden.specs.Stepping.{StepAnswer, stepOf, stepAt}
-use Rattle.golden.specs.Theorems.{FirstBad, not-a-file, bad-record, repeated, FindReason, no-file, first-bad, first-named, none-named, countPlace, CountPointsNowhere, checkPlace, CheckPointsShort, findPlace, FindPointsShort, stepPlace, StepPointsShort, entryPlace, EntryPointsShort, comparePlace, ComparePointsWithin, makePlace, MakePointsShort}
+use Rattle.golden.specs.Theorems.{FirstRefused, not-a-file, bad-record, repeated, FindReason, no-file, first-bad, first-named, none-named, countPlace, CountPointsNowhere, checkPlace, CheckPointsShort, findPlace, FindPointsShort, stepPlace, StepPointsShort, entryPlace, EntryPointsShort, comparePlace, ComparePointsWithin, makePlace, MakePointsShort}
 use Rattle.golden.proofs.CheckedLaws.{check-names-the-first}
 use Rattle.golden.proofs.FoundLaws.{find-gives-its-reason}
 use Rattle.golden.proofs.RecordLaws.{length-most}
@@ -77,7 +77,7 @@ count-points-nowhere f = go (badFile f)
 pub check-points-short : CheckPointsShort
 check-points-short f = by (checking f) refl
   where
-    at : (n : ℕ) (r : Refused) → FirstBad f n r → placeIn r ≤ messageRoom
+    at : (n : ℕ) (r : Refused) → FirstRefused f n r → placeIn r ≤ messageRoom
     at _ _ (not-a-file h) = omega arith
     at n r (bad-record _ _ h l j before) = bad-points f n r j
     at _ _ (repeated i n h l g b p before) = omega arith

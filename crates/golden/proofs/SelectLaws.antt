@@ -1,5 +1,5 @@
 -- The numbers that pass, ascending: each passes and is in range, none is left out; and what noting them makes of a list.
--- Inductions on how many are left. For whoever lists records or places: K4, K8 and K10 build on these.
+-- Inductions on how many are left. For whoever lists records or places: K8 and K10 build on these.
 use mathlib.Core.Bool.{Bool, true, false, cond}
 use mathlib.Core.List.{List, [], _∷_, _++_}
 use mathlib.Core.Path.{_≡_, refl, ap, sym, _∙_}

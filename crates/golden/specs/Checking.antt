@@ -1,5 +1,5 @@
 -- Check: the count, or the first bad record's number and refusal; record 0 for 21. RULES 5.
--- The later of two records of one name is refused as 26 (K4): for a record that comes after 25, and before any later record is judged.
+-- The later of two records of one name is refused as 26 (K4): of one record 25 is told before 26, and no later record is judged first.
 -- `f` is the list of the file's bytes, and `n` the number of a record.
 use Prim.Native.Nat.{ℕ, zero, suc, _+_}
 use mathlib.Core.Bool.{Bool, cond}

@@ -66,16 +66,16 @@ isWritten name r = eqb (writtenName r .messageType) (name .messageType) && eqb (
 abbrev pub writtenBefore : List ℕ → NameFields → ℕ → Bool
 writtenBefore f name end = anyBelow (λ k. isWritten name (recordAt f k)) end
 
--- the slots by which check sees at once that most names are new: two of one name have one slot
-abbrev pub slots : ℕ
-slots = 256
+-- the buckets by which check sees at once that a name is new: two of one name have one bucket
+abbrev pub buckets : ℕ
+buckets = 256
 
-unfoldable pub slotOf : NameFields → ℕ
-slotOf name = (name .messageType + name .number) % slots
+unfoldable pub bucketOf : NameFields → ℕ
+bucketOf name = (name .messageType + name .number) % buckets
 
--- each record before `end` has noted the slot of its name
-abbrev pub NotedBefore : List ℕ → List Bool → ℕ → Type 0
-NotedBefore f noted end = (k : ℕ) → k < end → getD noted (slotOf (writtenName (recordAt f k))) false ≡ true
+-- each record before `end` has used the bucket of its name
+abbrev pub UsedBefore : List ℕ → List Bool → ℕ → Type 0
+UsedBefore f used end = (k : ℕ) → k < end → getD used (bucketOf (writtenName (recordAt f k))) false ≡ true
 
 -- ---- the table of refusals, by rows; 25 apart
 

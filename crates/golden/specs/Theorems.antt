@@ -89,18 +89,18 @@ abbrev pub SoundAreChecked : Type 0
 SoundAreChecked = (f : List ℕ) (n : ℕ) → Passed f n → checking f ≡ counted n
 
 -- where it refuses a file, it is no golden file; or all before the record that it names are sound, and that record is bad by that refusal, or good with the name of an earlier one
-pub data FirstBad (f : List ℕ) : ℕ → Refused → Type 0 where
-  not-a-file : badFile f ≡ true → FirstBad f 0 (plainly 21)
-  bad-record : (n : ℕ) (r : Refused) → badFile f ≡ false → n < countOf f → judgedAt f n ≡ bad r → Sound f n → FirstBad f n r
+pub data FirstRefused (f : List ℕ) : ℕ → Refused → Type 0 where
+  not-a-file : badFile f ≡ true → FirstRefused f 0 (plainly 21)
+  bad-record : (n : ℕ) (r : Refused) → badFile f ≡ false → n < countOf f → judgedAt f n ≡ bad r → Sound f n → FirstRefused f n r
   repeated : (i n : ℕ) → badFile f ≡ false → n < countOf f → GoodAt f n → i < n → pairs (judgedAt f n) (judgedAt f i) ≡ true → Sound f n
-      → FirstBad f n (plainly 26)
+      → FirstRefused f n (plainly 26)
 
 abbrev pub CheckNamesTheFirst : Type 0
-CheckNamesTheFirst = (f : List ℕ) (n : ℕ) (r : Refused) → checking f ≡ check.refused n r → FirstBad f n r
+CheckNamesTheFirst = (f : List ℕ) (n : ℕ) (r : Refused) → checking f ≡ check.refused n r → FirstRefused f n r
 
 -- and every such file is refused so
-abbrev pub FirstBadIsNamed : Type 0
-FirstBadIsNamed = (f : List ℕ) (n : ℕ) (r : Refused) → FirstBad f n r → checking f ≡ check.refused n r
+abbrev pub FirstRefusedIsNamed : Type 0
+FirstRefusedIsNamed = (f : List ℕ) (n : ℕ) (r : Refused) → FirstRefused f n r → checking f ≡ check.refused n r
 
 -- ---- K4, in plain words: two good records, of one type and one number
 
@@ -131,12 +131,22 @@ RefusesTheLater = (f : List ℕ) (k : ℕ) → checking f ≡ check.refused k (p
 abbrev pub LaterIsRefused : Type 0
 LaterIsRefused = (f : List ℕ) (k : ℕ) → badFile f ≡ false → Later f k → checking f ≡ check.refused k (plainly 26)
 
+-- any two of one name are refused: where the records up to the later one are good, 26 names it or one before it
+pub record NamedBy (f : List ℕ) (k : ℕ) : Type 0 where
+  pub later : ℕ
+  pub not-past : later ≤ k
+  pub refuses : checking f ≡ check.refused later (plainly 26)
+
+abbrev pub AnyTwoAreRefused : Type 0
+AnyTwoAreRefused =
+    (f : List ℕ) (i k : ℕ) → badFile f ≡ false → i < k → k < countOf f → ((m : ℕ) → m < k + 1 → GoodAt f m) → OneName f i k → NamedBy f k
+
 -- find of that name gives the earlier one
 abbrev pub EarlierIsFound : Type 0
 EarlierIsFound =
     (f : List ℕ) (k : ℕ) → badFile f ≡ false → (w : Later f k) → finding f (nameOf (w .one-name .second)) ≡ found (w .earlier) (w .earlier + 1)
 
--- some records taken out: each record of g is one of f, in the order of f
+-- some records taken out: g is a golden file, and each of its records is one of f, in the order of f
 pub record TakenOut (f g : List ℕ) : Type 0 where
   pub whole : badFile g ≡ false
   pub from : ℕ → ℕ
@@ -216,7 +226,7 @@ NeverTooShort = (f : List ℕ) (n : ℕ) (r : Refusal) → n < countOf f → jud
 
 -- ---- how large an answer can be: no more records than a file may hold, no more places than the longest message has
 
--- the count, or the bad record's number
+-- the count, or the refused record's number
 abbrev pub checkedNumber : CheckAnswer → ℕ
 checkedNumber (counted n) = n
 checkedNumber (check.refused n r) = n

@@ -1,5 +1,5 @@
 -- What K4 changes: any file is answered as before, or refused as 26 and nothing else.
--- Check as it was defined without that refusal is kept here beside the statements, and is no part of any promise. Proved in proofs/Without26Laws.
+-- Check without that refusal stands here beside the statements, and is no part of any promise. Proved in proofs/Without26Laws.
 use Prim.Native.Nat.{ℕ, zero, suc, _+_}
 use mathlib.Core.Bool.{false, cond}
 use mathlib.Core.List.{List}

@@ -6,7 +6,7 @@ ghost use lib.ListN.{length};
 ghost use Rattle.golden.specs.Checking.{Checks};
 ghost use Rattle.golden.specs.File.{countOf, recordAt};
 ghost use Rattle.golden.specs.Finding.{toldName};
-ghost use Rattle.golden.specs.Helpers.{isWritten, writtenBefore, slots, slotOf};
+ghost use Rattle.golden.specs.Helpers.{isWritten, writtenBefore, buckets, bucketOf};
 ghost use Rattle.golden.specs.Record.{recordSize};
 use crate::file::bad_file;
 use crate::file::count_of;
@@ -18,7 +18,7 @@ use crate::refusal::Refusal;
 use envelope::numbers::four_bytes;
 use envelope::numbers::two_bytes;
 
-const SLOTS: usize = 256;
+const BUCKETS: usize = 256;
 
 pub enum Checking {
     Count(usize),
@@ -35,7 +35,7 @@ pub fn check(file: &[u8]) -> Checking
         };
     }
     let count = count_of(file);
-    let mut noted = [false; SLOTS];
+    let mut used = [false; BUCKETS];
     let mut n = 0;
     while n < count {
         match open_at(file, n) {
@@ -44,14 +44,14 @@ pub fn check(file: &[u8]) -> Checking
             }
             Opening::Good(good) => {
                 let name = Name::of(good);
-                let slot = slot_of(name);
-                if name_taken(file, name, n, noted[slot]) {
+                let bucket = bucket_of(name);
+                if name_taken(file, name, n, used[bucket]) {
                     return Checking::Refused {
                         record: n,
                         refusal: Refusal::NameTaken,
                     };
                 }
-                noted[slot] = true;
+                used[bucket] = true;
             }
         }
         n += 1;
@@ -59,20 +59,20 @@ pub fn check(file: &[u8]) -> Checking
     Checking::Count(n)
 }
 
-// One slot for a name: most names have one of their own, also where only types or only numbers differ.
-fn slot_of(name: Name) -> usize
-    ensures { λ r. ⌜ (r ≡ slotOf (toldName name)) × (r < slots) ⌝ }
+// A bucket for each name, by type plus number. Names that follow each other in type or number have buckets apart; those a multiple of 256 apart share one.
+fn bucket_of(name: Name) -> usize
+    ensures { λ r. ⌜ (r ≡ bucketOf (toldName name)) × (r < buckets) ⌝ }
 {
-    (name.message_type as usize + name.number as usize) % SLOTS
+    (name.message_type as usize + name.number as usize) % BUCKETS
 }
 
 // Whether a record before `end` has the name. They are good, so the bytes of type and number tell it, and none is read again.
-// Most names are in a slot where none was noted before, and then none is looked at.
-fn name_taken(file: &[u8], name: Name, end: usize, noted: bool) -> bool
-    requires { ⌜ (end ≤ countOf (now file)) × (noted ≡ false → writtenBefore (now file) (toldName name) end ≡ false) ⌝ }
+// Where no earlier name used the bucket of this one, none has it, and no record is looked at.
+fn name_taken(file: &[u8], name: Name, end: usize, used: bool) -> bool
+    requires { ⌜ (end ≤ countOf (now file)) × (used ≡ false → writtenBefore (now file) (toldName name) end ≡ false) ⌝ }
     ensures { λ r. ⌜ r ≡ writtenBefore (now (file .entry)) (toldName name) end ⌝ }
 {
-    if !noted {
+    if !used {
         return false;
     }
     let mut earlier = 0;

@@ -12,7 +12,7 @@ use crate::record::GoodRecord;
 use crate::record::Opening;
 use crate::refusal::Refusal;
 
-// What find seeks.
+// A record's name: what find seeks, and what no two records of a checked file share.
 pub struct Name {
     pub message_type: u16,
     pub number: u32,
@@ -55,7 +55,7 @@ pub fn find(file: &[u8], name: Name) -> Finding
 }
 
 // Among the records before `end`.
-pub(crate) fn find_before(file: &[u8], name: Name, end: usize) -> Finding
+fn find_before(file: &[u8], name: Name, end: usize) -> Finding
     requires { ⌜ end ≤ countOf (now file) ⌝ }
     ensures { λ r. ⌜ toldFinding r ≡ findFrom (now (file .entry)) (toldName name) 0 end ⌝ }
 {

@@ -7,7 +7,7 @@ use Rattle.envelope.specs.RoundTrips.{WrittenThenRead, WrittenBufferThenRead, W
 use Rattle.envelope.proofs.QosLaws.{joins-what-was-split, splits-what-was-joined}
 use Rattle.envelope.proofs.RoundTripLaws as trips
 use Rattle.golden.specs.Beginning.{NeverABeginning, Never32, CompareIsUnchanged, CompareNeverGives32}
-use Rattle.golden.specs.Theorems.{FileWalksInOrder, OtherFileStays, StepReachesTheStored, CheckedAreSound, SoundAreChecked, CheckNamesTheFirst, FirstBadIsNamed, NoTwoOfOneName, RefusesTheLater, LaterIsRefused, EarlierIsFound, FewerStillPass, FindsTheFirst, FindsTheOne, FindGivesItsReason, ReasonSettlesFind, SameIsEqual, MadeIsGood, NeverTooShort}
+use Rattle.golden.specs.Theorems.{FileWalksInOrder, OtherFileStays, StepReachesTheStored, CheckedAreSound, SoundAreChecked, CheckNamesTheFirst, FirstRefusedIsNamed, NoTwoOfOneName, RefusesTheLater, LaterIsRefused, AnyTwoAreRefused, EarlierIsFound, FewerStillPass, FindsTheFirst, FindsTheOne, FindGivesItsReason, ReasonSettlesFind, SameIsEqual, MadeIsGood, NeverTooShort}
 use Rattle.golden.specs.Without26.{Only26IsNew, PassedWithout26}
 use Rattle.golden.proofs.BeginningLaws as beginning
 use Rattle.golden.proofs.CheckedLaws as checked
@@ -68,8 +68,8 @@ sound-are-checked = checked.sound-are-checked
 pub check-names-the-first : CheckNamesTheFirst
 check-names-the-first = checked.check-names-the-first
 
-pub first-bad-is-named : FirstBadIsNamed
-first-bad-is-named = checked.first-bad-is-named
+pub first-refused-is-named : FirstRefusedIsNamed
+first-refused-is-named = checked.first-refused-is-named
 
 pub finds-the-first : FindsTheFirst
 finds-the-first = checked.finds-the-first
@@ -84,6 +84,9 @@ refuses-the-later = checked.refuses-the-later
 
 pub later-is-refused : LaterIsRefused
 later-is-refused = checked.later-is-refused
+
+pub any-two-are-refused : AnyTwoAreRefused
+any-two-are-refused = checked.any-two-are-refused
 
 pub earlier-is-found : EarlierIsFound
 earlier-is-found = checked.earlier-is-found

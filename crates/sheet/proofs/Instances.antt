@@ -46,7 +46,7 @@ use Rattle.golden.specs.Making as make
 use Rattle.golden.specs.Record.{storedWord, storedLength, badLength, allZero, judging, messageOf}
 use Rattle.golden.specs.Stepping.{end, stepAt, nextAfter, toldReached}
 use Rattle.golden.specs.Stepping as step
-use Rattle.golden.specs.Theorems.{Passed, FirstBad, FirstNamed, no-file, MadeGood, InOrder}
+use Rattle.golden.specs.Theorems.{Passed, FirstRefused, FirstNamed, no-file, MadeGood, InOrder}
 use Rattle.golden.specs.declared.comparer.Comparison.the-variants as comparison
 use Rattle.golden.specs.declared.maker.Making.the-variants.{Made}
 use Rattle.golden.specs.declared.maker.Making.the-variants as making
@@ -62,7 +62,7 @@ use Rattle.sheet.specs.Cases.{M, likeM, C, fieldsOfC}
 use Rattle.sheet.specs.Limits.{acrossTheEdge}
 use Rattle.sheet.proofs.Cases.{starred}
 use Rattle.sheet.proofs.Demand1.{a-word-tells-its-slots, count-gives, check-gives, find-gives, step-gives, entry-gives, compare-gives, make-gives, a-refusal-writes-nothing, a-refused-rewrite-writes-nothing, refused-read-for-c-keeps, a-refused-comparison-keeps-the-list, a-refused-making-keeps-the-buffer}
-use Rattle.sheet.proofs.Demand2.{written-then-read, written-buffer-then-read, written-then-handed-out, read-then-written, handed-out-then-written, same-fields-same-bytes, qos-joins-what-was-split, qos-splits-what-was-joined, file-walks-in-order, other-file-stays, checked-are-sound, sound-are-checked, check-names-the-first, first-bad-is-named, finds-the-first, reason-settles-find, same-is-equal, made-is-good, never-a-beginning}
+use Rattle.sheet.proofs.Demand2.{written-then-read, written-buffer-then-read, written-then-handed-out, read-then-written, handed-out-then-written, same-fields-same-bytes, qos-joins-what-was-split, qos-splits-what-was-joined, file-walks-in-order, other-file-stays, checked-are-sound, sound-are-checked, check-names-the-first, first-refused-is-named, finds-the-first, reason-settles-find, same-is-equal, made-is-good, never-a-beginning}
 use Rattle.sheet.proofs.Apart.{apart}
 use Rattle.sheet.proofs.Demand3.{four-bytes-show, thirty-two-bits-show, three-bits-show, bytes-at-the-edge-show, two-and-two-show, demand-3, demand-3-bits, golden-demand-3, three-bits-anywhere, golden-three-bits-anywhere, any-window, golden-any-window, middle-window, golden-middle-window}
 use Rattle.sheet.proofs.Limits.{limits, bytes-of-pair, pair-length, pair-outside}
@@ -146,13 +146,13 @@ made-file-is-good =
 pub made-file-is-the-message : messageOf (recordAt file 0) ≡ M
 made-file-is-the-message = same-is-equal file 0 M (made-file-is-good .compares)
 
-pub a-short-length-is-the-first : FirstBad shortLength 0 (plainly 23)
+pub a-short-length-is-the-first : FirstRefused shortLength 0 (plainly 23)
 a-short-length-is-the-first = check-names-the-first shortLength 0 (plainly 23) (bad-records .0)
 
 pub a-short-length-is-refused : checking shortLength ≡ check.refused 0 (plainly 23)
-a-short-length-is-refused = first-bad-is-named shortLength 0 (plainly 23) a-short-length-is-the-first
+a-short-length-is-refused = first-refused-is-named shortLength 0 (plainly 23) a-short-length-is-the-first
 
-pub one-byte-is-no-file : FirstBad (7 ∷ []) 0 (plainly 21)
+pub one-byte-is-no-file : FirstRefused (7 ∷ []) 0 (plainly 21)
 unfolding checking badFile
 one-byte-is-no-file = check-names-the-first (7 ∷ []) 0 (plainly 21) refl
 

@@ -18,11 +18,12 @@ use Rattle.golden.specs.Finding.{nameOf, found, finding}
 use Rattle.golden.specs.Making.{recordOf}
 use Rattle.golden.specs.Pairing.{anyBelow}
 use Rattle.golden.specs.Record.{storedWord, storedLength, allZero, badLength, judging}
-use Rattle.golden.specs.Theorems.{OneName, Later, TakenOut, TheOne}
+use Rattle.golden.specs.Theorems.{GoodAt, OneName, Later, NamedBy, TakenOut, TheOne}
 use Rattle.golden.specs.Without26.{checkingWithout26}
+use Rattle.golden.proofs.FileLaws.{one-more}
 use Rattle.sheet.specs.SmallFiles.{numbered, name, two, twice}
 use Rattle.sheet.proofs.Demand1.{check-gives}
-use Rattle.sheet.proofs.Demand2.{no-two-of-one-name, refuses-the-later, later-is-refused, earlier-is-found, fewer-still-pass, finds-the-one, passed-without-26}
+use Rattle.sheet.proofs.Demand2.{no-two-of-one-name, refuses-the-later, later-is-refused, any-two-are-refused, earlier-is-found, fewer-still-pass, finds-the-one, passed-without-26}
 use Rattle.sheet.proofs.NameCases.{names}
 use Rattle.sheet.proofs.SmallFiles.{small}
 
@@ -32,12 +33,21 @@ two-have-names-apart = no-two-of-one-name two 2 0 1 (small .two-pass) (omega ari
 pub twice-has-a-later : Later twice 1
 twice-has-a-later = refuses-the-later twice 1 (names .the-later)
 
+-- the records up to the later one are good: those before it are sound, and so is it
+all-good : (m : ℕ) → m < 2 → GoodAt twice m
+all-good = one-more (GoodAt twice) 1 (twice-has-a-later .sound .records) (record { fields = _; judged = twice-has-a-later .one-name .second-good })
+
 whole : badFile twice ≡ false
 unfolding badFile recordOf
 whole = refl
 
 pub twice-is-refused : checking twice ≡ refused 1 (plainly 26)
 twice-is-refused = later-is-refused twice 1 whole twice-has-a-later
+
+pub twice-is-named : NamedBy twice 1
+twice-is-named =
+    let w = twice-has-a-later in
+    any-two-are-refused twice (w .earlier) 1 whole (w .before) (w .there) all-good (w .one-name)
 
 pub the-earlier-is-found :
     finding twice (nameOf (twice-has-a-later .one-name .second)) ≡ found (twice-has-a-later .earlier) (twice-has-a-later .earlier + 1)

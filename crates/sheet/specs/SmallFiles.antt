@@ -1,4 +1,4 @@
--- Files of a few records, each M with another number: what check and find say of them.
+-- Files of one and two records, of M with other numbers, and what check says of them.
 -- The checker computes them, in proofs/SmallFiles.
 use Prim.Native.Nat.{ℕ}
 use mathlib.Core.List.{List, _++_}
@@ -6,8 +6,8 @@ use mathlib.Core.Path.{_≡_}
 use lib.ListN.{set}
 use Rattle.envelope.specs.Fields.{refusalBy}
 use Rattle.envelope.specs.Refusals.{Refused, passingOn}
-use Rattle.golden.specs.Checking.{counted, refused, checking}
-use Rattle.golden.specs.Finding.{NameFields, found, finding}
+use Rattle.golden.specs.Checking.{counted, checking}
+use Rattle.golden.specs.Finding.{NameFields}
 use Rattle.golden.specs.Making.{recordOf}
 use Rattle.sheet.specs.Cases.{M}
 
@@ -34,6 +34,3 @@ by25 = passingOn 25 (refusalBy 7 17)
 
 pub record SmallFiles : Type 0 where
   pub two-pass : checking two ≡ counted 2
-  pub one-pass : checking (recordOf (numbered 2)) ≡ counted 1
-  pub broken-fails : checking broken ≡ refused 0 by25
-  pub finds-second : finding two (name 2) ≡ found 1 2

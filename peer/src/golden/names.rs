@@ -13,7 +13,7 @@ fn spoiled() -> Vec<u8> {
     message
 }
 
-/// A record of M's name that each of 23, 24 and 25 refuses.
+/// For each of 23, 24 and 25 a record of M's name that it refuses.
 fn bad_records() -> [(Vec<u8>, Refusal); 3] {
     let (mut length, mut not_clear) = (record_of(&shortest()), record_of(&shortest()));
     (length[1], not_clear[RECORD - 1]) = (20, 1);

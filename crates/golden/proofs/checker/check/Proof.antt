@@ -1,4 +1,4 @@
--- The loop of `checker::check`: the records seen are good and noted, and those that are left give what all of them give.
+-- The loop of `checker::check`: the records seen are good and used, and those that are left give what all of them give.
 use mathlib.Core.Bool.{true, false}
 use mathlib.Core.Path.{_≡_, refl, ap, sym, _∙_}
 use Prim.Native.Nat.{ℕ, _≤_, _<_, _-_}
@@ -9,22 +9,22 @@ use Rattle.envelope.specs.Told.{toldEnvelope}
 use Rattle.golden.proofs.FileLaws.{one-more}
 use Rattle.golden.proofs.FindingLaws.{judged-bad, judged-good, check-21, check-all, check-start, check-on, check-end, repeats-by-bytes}
 use Rattle.golden.proofs.NameLaws.{name-is-written}
-use Rattle.golden.proofs.NotedLaws.{none-noted, noted-on}
+use Rattle.golden.proofs.BucketLaws.{none-used, used-on}
 use Rattle.golden.specs.Checking.{repeats, checkFrom}
 use Rattle.golden.specs.File.{recordAt, judgedAt}
 use Rattle.golden.specs.Finding.{NameFields, toldName}
-use Rattle.golden.specs.Helpers.{toldOpening, writtenName, writtenBefore, slots, slotOf, NotedBefore}
+use Rattle.golden.specs.Helpers.{toldOpening, writtenName, writtenBefore, buckets, bucketOf, UsedBefore}
 use Rattle.golden.specs.Record.{good}
 use Rattle.golden.specs.Theorems.{GoodAt}
 use Rattle.golden.proofs.checker.check.Statement.{statement}
 use Rattle.golden.proofs.checker.check.Tie as tie
 
 abbrev Inv-loop : tie.InvT-loop
-Inv-loop file count noted₀ n₀ noted n =
-    (n ≤ count) × (checkFrom file 0 count ≡ checkFrom file n (count - n)) × ((k : ℕ) → k < n → GoodAt file k) × (length noted ≡ slots) × NotedBefore file noted n
+Inv-loop file count used₀ n₀ used n =
+    (n ≤ count) × (checkFrom file 0 count ≡ checkFrom file n (count - n)) × ((k : ℕ) → k < n → GoodAt file k) × (length used ≡ buckets) × UsedBefore file used n
 
 abbrev μ-loop : tie.MeasureT-loop
-μ-loop file count noted₀ n₀ noted n = count - n
+μ-loop file count used₀ n₀ used n = count - n
 
 -- the record at hand is good
 good-here : (c : tie.After-good2 Inv-loop μ-loop) →
@@ -33,13 +33,13 @@ good-here : (c : tie.After-good2 Inv-loop μ-loop) →
     judgedAt (start .args .file .now) (loop .loop .n) ≡ good (toldEnvelope (c .good2 .given .0 .0 .envelope))
 good-here c = judged-good _ _ _ _ (ap toldOpening (sym (c .good2 .given .1)) ∙ c .before .before .open-at .ensures) .0
 
--- its slot is that of the name in its bytes
-slot-here : (c : tie.After-slot-of Inv-loop μ-loop) →
+-- its bucket is that of the name in its bytes
+bucket-here : (c : tie.After-bucket-of Inv-loop μ-loop) →
     let loop = c .before .before .before .before .before .before .before in
     let start = loop .before .before .before .before .before in
-    slotOf (writtenName (recordAt (start .args .file .now) (loop .loop .n))) ≡ c .slot-of .result
-slot-here c =
-    ap slotOf (sym (name-is-written _ _ _ (good-here (c .before .before .before))) ∙ sym (c .before .of .ensures)) ∙ sym (c .slot-of .ensures .0)
+    bucketOf (writtenName (recordAt (start .args .file .now) (loop .loop .n))) ≡ c .bucket-of .result
+bucket-here c =
+    ap bucketOf (sym (name-is-written _ _ _ (good-here (c .before .before .before))) ∙ sym (c .before .of .ensures)) ∙ sym (c .bucket-of .ensures .0)
 
 -- and its name is taken, or not
 taken : (c : tie.After-name-taken Inv-loop μ-loop) →
@@ -84,17 +84,17 @@ enum-known-good c = search needs
 of-requires : tie.Need-of-requires Inv-loop μ-loop
 of-requires c κs = search needs
 
-slot-of-requires : tie.Need-slot-of-requires Inv-loop μ-loop
-slot-of-requires c κs = search needs
+bucket-of-requires : tie.Need-bucket-of-requires Inv-loop μ-loop
+bucket-of-requires c κs = search needs
 
 array-read-name-taken : tie.Need-array-read-name-taken Inv-loop μ-loop
-array-read-name-taken c = omega (arith, c .before .before .before .before .before .before .before .loop .inv .3, c .slot-of .ensures .1)
+array-read-name-taken c = omega (arith, c .before .before .before .before .before .before .before .loop .inv .3, c .bucket-of .ensures .1)
 
 name-taken-requires : tie.Need-name-taken-requires Inv-loop μ-loop
 name-taken-requires c κs =
     let loop = c .before .before .before .before .before .before .before in (
       omega arith,
-      λ e. none-noted _ (loop .loop .noted) (toldName (c .before .of .result)) _ (loop .loop .inv .4) (ap (λ (s : ℕ). getD (loop .loop .noted) s false) (sym (c .slot-of .ensures .0)) ∙ e),
+      λ e. none-used _ (loop .loop .used) (toldName (c .before .of .result)) _ (loop .loop .inv .4) (ap (λ (s : ℕ). getD (loop .loop .used) s false) (sym (c .bucket-of .ensures .0)) ∙ e),
     )
 
 returns-3 : tie.Need-returns-3 Inv-loop μ-loop
@@ -105,8 +105,8 @@ returns-3 c =
     (rw (← count .count-of .ensures)
     (loop .loop .inv .1 ∙ check-on _ _ _ (c .before .before .before .before .before .before .before .before .loop-test .taken) _ (taken (c .before) ∙ c .if2 .taken) _ (good-here (c .before .before .before .before .before))))
 
-array-write-noted : tie.Need-array-write-noted Inv-loop μ-loop
-array-write-noted c = omega (arith, c .before .before .before .before .before .before .before .before .before .loop .inv .3, c .before .before .slot-of .ensures .1)
+array-write-used : tie.Need-array-write-used Inv-loop μ-loop
+array-write-used c = omega (arith, c .before .before .before .before .before .before .before .before .before .loop .inv .3, c .before .before .bucket-of .ensures .1)
 
 add-n : tie.Need-add-n Inv-loop μ-loop
 add-n c = search needs
@@ -118,14 +118,14 @@ loop-again : tie.Need-loop-again Inv-loop μ-loop
 loop-again c =
     let loop = c .before .before .before .before .before .before .before .before .before in
     let here = good-here (c .before .before .before .before .before) in
-    let slot = c .before .before in
+    let bucket = c .before .before in
     let room = loop .loop .inv .3 in
-    let within = slot .slot-of .ensures .1 in (
+    let within = bucket .bucket-of .ensures .1 in (
       omega arith,
       loop .loop .inv .1 ∙ check-on _ _ _ (c .before .before .before .before .before .before .before .before .loop-test .taken) _ (taken (c .before) ∙ c .if2 .left) _ here,
       one-more (GoodAt _) _ (loop .loop .inv .2) (record { fields = _; judged = here }),
-      length-set (loop .loop .noted) (slot .slot-of .result) true ∙ room,
-      noted-on _ (loop .loop .noted) _ (slot .slot-of .result) (omega (arith, room, within)) (slot-here slot) (loop .loop .inv .4),
+      length-set (loop .loop .used) (bucket .bucket-of .result) true ∙ room,
+      used-on _ (loop .loop .used) _ (bucket .bucket-of .result) (omega (arith, room, within)) (bucket-here bucket) (loop .loop .inv .4),
     )
 
 returns-4 : tie.Need-returns-4 Inv-loop μ-loop
@@ -149,11 +149,11 @@ check-spec =
     returns-2
     enum-known-good
     of-requires
-    slot-of-requires
+    bucket-of-requires
     array-read-name-taken
     name-taken-requires
     returns-3
-    array-write-noted
+    array-write-used
     add-n
     loop-less
     loop-again

@@ -1,4 +1,4 @@
--- `checker::name_taken`: where no slot was noted there is none; and the loop: none of the records seen has the name.
+-- `checker::name_taken`: where no bucket was used there is none; and the loop: none of the records seen has the name.
 use mathlib.Core.Bool.{false}
 use mathlib.Core.Path.{_≡_, sym, _∙_}
 use Prim.Native.Nat.{_≤_, _-_}
@@ -13,10 +13,10 @@ use Rattle.golden.proofs.checker.name_taken.Statement.{statement}
 use Rattle.golden.proofs.checker.name_taken.Tie as tie
 
 abbrev Inv-loop : tie.InvT-loop
-Inv-loop file name end noted earlier₀ earlier = (earlier ≤ end) × (writtenBefore file (toldName name) earlier ≡ false)
+Inv-loop file name end used earlier₀ earlier = (earlier ≤ end) × (writtenBefore file (toldName name) earlier ≡ false)
 
 abbrev μ-loop : tie.MeasureT-loop
-μ-loop file name end noted earlier₀ earlier = end - earlier
+μ-loop file name end used earlier₀ earlier = end - earlier
 
 returns : tie.Need-returns Inv-loop μ-loop
 returns c = sym (c .before .before .pre .1 (not-true _ (c .if1 .taken)))
