@@ -17,6 +17,8 @@
  *
  *   bits  0-7   number    0: done. Otherwise the refusal, by the numbers below. Look here first: what the others tell goes by it.
  *   bits  8-15  reading   with 25, 31, 34 and 67, and from the judge's two functions, the number (1-7) that reading gives; otherwise 0.
+ *               retired   done by morlewen_line and morlewen_step: 1 of a retired record, 0 of a live one; morlewen_is_retired looks at
+ *                         the number too. These bits have two names, since no answer tells both.
  *   bits 16-31  count     a number of records, or what else a function says; otherwise 0.
  *   bits 32-63  value     done: a length, a total, or what else a function says; otherwise 0.
  *                         refused by reading, 1 to 7, or passed on by 25, 31, 34 and 67: the place in the message; otherwise 0.
@@ -41,12 +43,14 @@ extern "C" {
 
 static inline unsigned morlewen_number(uint64_t answer) { return (unsigned)(answer & 0xff); }
 static inline unsigned morlewen_reading(uint64_t answer) { return (unsigned)(answer >> 8 & 0xff); }
+static inline int morlewen_is_retired(uint64_t answer) { return (answer & 0xffff) == 0x100; }
 static inline unsigned morlewen_count(uint64_t answer) { return (unsigned)(answer >> 16 & 0xffff); }
 static inline uint32_t morlewen_value(uint64_t answer) { return (uint32_t)(answer >> 32); }
 
-/* The refusals. Where several apply to one message, record or frame, the one that stands first here is given, but by a feed the
- * one that its bytes settle first. Of the records that a call opens the first that is refused decides: morlewen_check opens them
- * in order up to that one or to the last, morlewen_find up to a match too, and the others open the one that they are asked for. */
+/* The refusals. Where several apply to one message, record or frame, the one that stands first here is given; but 38 comes before
+ * 31, and a feed gives the one that its bytes settle first. Of the records that morlewen_check and morlewen_find open, in order, the
+ * first that is refused decides; morlewen_find stops at a match too. morlewen_line, morlewen_step, morlewen_compare and
+ * morlewen_retire open the one that they are asked for. morlewen_retired_records opens all, and none decides. */
 enum {
     MORLEWEN_DONE = 0,
     /* reading a message; each has a place */
@@ -66,16 +70,19 @@ enum {
     /* golden files and their records */
     MORLEWEN_NOT_A_GOLDEN_FILE = 21,     /* the length is no multiple of 512, or above 65,536 */
     MORLEWEN_NO_RECORD = 22,             /* the record asked for is not there */
-    MORLEWEN_BAD_LENGTH = 23,            /* the stored length is below 21 or above 510 */
+    MORLEWEN_BAD_LENGTH = 23,            /* the stored length, without its top bit, is below 21 or above 510 */
     MORLEWEN_NOT_CLEAR = 24,             /* a byte after the message is not zero */
     MORLEWEN_RECORD_REFUSED = 25,        /* reading refuses the record's message; `reading` says why, `value` where */
-    MORLEWEN_NAME_TAKEN = 26,            /* the record is good, and an earlier one has its type and number; morlewen_check alone gives it */
-    MORLEWEN_NOT_FOUND = 27,             /* every record is good, and none has that type and number */
+    MORLEWEN_NAME_TAKEN = 26,            /* the record is live, and an earlier live one has its type and number; morlewen_check alone gives it */
+    MORLEWEN_NOT_FOUND = 27,             /* every record is good, and no live one has that type and number */
     MORLEWEN_RADIO_REFUSED = 31,         /* reading refuses the radio's message; `reading` says why, `value` where */
     /* 32 is not used again: of two messages that reading accepts neither is a proper beginning of the other */
     MORLEWEN_MESSAGE_TOO_LONG = 33,      /* a message for a record is over 510 bytes */
     MORLEWEN_MESSAGE_REFUSED = 34,       /* reading refuses that message; `reading` says why, `value` where */
     MORLEWEN_WRONG_BUFFER = 35,          /* the buffer for a record is not 512 bytes */
+    MORLEWEN_ALREADY_RETIRED = 36,       /* the record to be retired is retired */
+    MORLEWEN_WRONG_COPY = 37,            /* the buffer for the copy is not as long as the file */
+    MORLEWEN_RECORD_RETIRED = 38,        /* the record to be compared is retired; morlewen_compare gives it after 25 and before 31 */
     /* QoS */
     MORLEWEN_QOS_DOES_NOT_FIT = 41,      /* one of the five numbers does not fit its bits */
     /* messages as they arrive */
@@ -208,42 +215,54 @@ uint64_t morlewen_judge_places(const uint8_t *bytes, size_t length, uint8_t verd
                                uint64_t places[MORLEWEN_RULES]);
 
 /* ---- Golden files ----
- * `file` is the whole file in memory. It is only ever read. Records count from 0. */
+ * `file` is the whole file in memory. It is only ever read. Records count from 0. A record whose stored length has its top bit
+ * set is marked as retired: the other 15 bits are the length, which 23 judges, and else it is judged as any record. A good record
+ * is retired or live; a bad one is neither. No sum guards the mark: one flipped bit retires a reference, and the file still checks. */
 
 /* How many records there are, good or bad. Done: `count`. Refused: 21. */
 uint64_t morlewen_records(const uint8_t *file, size_t length);
 
-/* Checks every record, one after the other. Done: all are good, no two have the same type and message number, and `count` is how
- * many. Refused: 21, or 23 to 26 for the first record that is bad or has the type and number of an earlier one; its number is in
- * `count` (0 with 21). With 26 morlewen_line of that record tells both, and morlewen_find of them gives the earlier one. */
+/* How many records are good and retired. It reads every record, and a bad one counts as none. Done: `count`. Refused: 21. */
+uint64_t morlewen_retired_records(const uint8_t *file, size_t length);
+
+/* Checks every record, one after the other. Done: all are good, no two live ones have the same type and message number, and
+ * `count` is how many there are, retired ones too. Refused: 21, or 23 to 26 for the first record that is bad, or is live and has
+ * the type and number of an earlier live one; its number is in `count` (0 with 21). With 26 morlewen_line of that record tells
+ * both, and morlewen_find of them gives the earlier one. */
 uint64_t morlewen_check(const uint8_t *file, size_t length);
 
-/* Opens records from the first, until one is bad or has this type and message number. `count` is how many were opened,
- * whatever the answer. Done: the record found is the last one opened, and its number is in `value`.
+/* Opens records from the first, until one is bad, or is live and has this type and message number. Retired ones are passed over.
+ * `count` is how many were opened, retired ones too, whatever the answer. Done: the record found is the last one opened, and its
+ * number is in `value`.
  * Refused: 21, 23 to 25 for the bad record, or 27. */
 uint64_t morlewen_find(const uint8_t *file, size_t length, uint16_t type, uint32_t number);
 
 enum { MORLEWEN_LINE_TYPE = 0, MORLEWEN_LINE_NUMBER = 1, MORLEWEN_LINE_SIZE = 2, MORLEWEN_LINE = 3 };
 
-/* One record as a listing shows it: its message's type, number and length, into `line`. Refused: 21 to 25. */
+/* One record as a listing shows it: its message's type, number and length, into `line`. Done: morlewen_is_retired tells whether
+ * it is retired. Refused: 21 to 25. */
 uint64_t morlewen_line(const uint8_t *file, size_t length, size_t record, uint64_t line[MORLEWEN_LINE]);
 
 enum { MORLEWEN_PART_PLACE = 0, MORLEWEN_PART_SIZE = 1, MORLEWEN_PART = 2 };
 
 /* One step of a walk over the file. The caller keeps the number of the next record, from 0 on, and adds `count` to it after
  * each step: 1, also where this record is refused, or 0 at the end and with 21, where a walk stays.
- * Done: `value` is the size of the message, and `part` its first place in the file and its size; or `value` is 0: the
- * end, and `part` is as it was. Refused: 21, 23 to 25. */
+ * Done: `value` is the size of the message, `part` its first place in the file and its size, and morlewen_is_retired tells
+ * whether the record is retired; or `value` is 0: the end, with 0 there, and `part` is as it was. Refused: 21, 23 to 25. */
 uint64_t morlewen_step(const uint8_t *file, size_t length, size_t record, uint64_t part[MORLEWEN_PART]);
 
 /* Compares one record with a radio's message. Done: `value` is how many places differ, 0 where the two are the same; a place
  * that only the longer has differs. The places go into `places`, ascending, as far as it has room; the rest of it is
- * untouched. Refused: 21 to 25, 31. */
+ * untouched. Refused: 21 to 25, then 38, then 31. */
 uint64_t morlewen_compare(const uint8_t *file, size_t length, size_t record, const uint8_t *radio, size_t radio_length,
                           uint32_t *places, size_t room);
 
-/* Makes a record of a message: 512 bytes into the buffer. Refused: 33 to 35. */
+/* Makes a live record of a message: 512 bytes into the buffer. Refused: 33 to 35. */
 uint64_t morlewen_make(const uint8_t *message, size_t length, uint8_t *buffer, size_t room);
+
+/* Retires a record: the file goes into the buffer with the top bit of that record's stored length set, and no other byte
+ * different. The buffer has just the file's length. Refused: 21 to 25 for that record, then 36, then 37. */
+uint64_t morlewen_retire(const uint8_t *file, size_t length, size_t record, uint8_t *buffer, size_t room);
 
 /* ---- Messages as they arrive ----
  * A feed is storage that the caller owns: the bytes kept of the message that is on its way, and two numbers. All zeros is a

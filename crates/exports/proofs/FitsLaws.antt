@@ -35,23 +35,28 @@ use Rattle.golden.specs.Comparing.{CompareAnswer, same, different, refused, com
 use Rattle.golden.specs.File.{mostRecords}
 use Rattle.golden.specs.Finding.{NameFields, FindAnswer, found, finding}
 use Rattle.golden.specs.Finding as find
-use Rattle.golden.specs.Listing.{CountAnswer, counting, EntryAnswer, entryAt}
+use Rattle.golden.specs.Listing.{CountAnswer, counting, countingRetired, EntryAnswer, entryAt}
 use Rattle.golden.specs.Listing as listing
 use Rattle.golden.specs.Making.{MakeAnswer, making}
 use Rattle.golden.specs.Making as make
 use Rattle.golden.specs.Record.{messageRoom}
+use Rattle.golden.specs.Retired.{retirePlace}
+use Rattle.golden.specs.Retiring.{RetireAnswer, retiring}
+use Rattle.golden.specs.Retiring as retire
 use Rattle.golden.specs.Stepping.{StepAnswer, message, end, stepAt}
 use Rattle.golden.specs.Stepping as step
 use Rattle.golden.specs.Theorems.{checkedNumber, countedNumber, openedNumber, foundNumber, reachedSize, differenceTotal, countPlace, checkPlace, findPlace, stepPlace, entryPlace, comparePlace, makePlace}
 use Rattle.envelope.proofs.PlaceLaws.{places-within}
 use Rattle.envelope.proofs.RewriteLaws.{rewrites-no-longer, rewrite-points-within}
 use Rattle.envelope.proofs.WriteLaws.{writes-no-longer}
+use Rattle.golden.proofs.CountLaws.{retired-are-few}
 use Rattle.golden.proofs.FewLaws.{check-names-few, count-is-few, find-opens-few, step-reaches-short, compare-totals-few}
 use Rattle.golden.proofs.PointLaws.{count-points-nowhere, check-points-short, find-points-short, step-points-short, entry-points-short, compare-points-within, make-points-short}
+use Rattle.golden.proofs.RetiredLaws.{retire-points-short}
 use Rattle.exports.specs.Envelopes.{readSlots, writeSlots, rewriteSlots}
 use Rattle.exports.specs.Feeds.{foundSlots}
 use Rattle.exports.specs.Frames.{unwrapSlots, wrapSlots}
-use Rattle.exports.specs.Goldens.{countSlots, checkSlots, findSlots, lineSlots, stepSlots, compareSlots, makeSlots}
+use Rattle.exports.specs.Goldens.{countSlots, checkSlots, findSlots, lineSlots, stepSlots, compareSlots, makeSlots, retireSlots}
 use Rattle.exports.specs.Word.{word, WordTellsItsSlots}
 
 -- a place in numbers, as it was told
@@ -85,7 +90,10 @@ count-in (listing.counted n) h p = (omega (arith, h), omega arith)
 count-in (listing.refused r) h p = (omega arith, omega (arith, p))
 
 pub count-fits : (f : List ℕ) (a : CountAnswer) → a ≡ counting f → (countSlots a .count < 2 ^ 16) × (countSlots a .value < 2 ^ 32)
-count-fits f a e = rw e (count-in (counting f) (count-is-few f) (count-points-nowhere f))
+count-fits f a e = rw e (count-in (counting f) (count-is-few f) (count-points-nowhere f .0))
+
+pub count-retired-fits : (f : List ℕ) (a : CountAnswer) → a ≡ countingRetired f → (countSlots a .count < 2 ^ 16) × (countSlots a .value < 2 ^ 32)
+count-retired-fits f a e = rw e (count-in (countingRetired f) (retired-are-few f) (count-points-nowhere f .1))
 
 check-in : (a : CheckAnswer) → checkedNumber a ≤ mostRecords → checkPlace a ≤ messageRoom → (checkSlots a .count < 2 ^ 16) × (checkSlots a .value < 2 ^ 32)
 check-in (counted n) h p = (omega (arith, h), omega arith)
@@ -104,14 +112,14 @@ pub find-fits : (f : List ℕ) (name : NameFields) (a : FindAnswer) → a ≡ fi
 find-fits f name a e = rw e (find-in (finding f name) (find-opens-few f name) (find-points-short f name))
 
 line-in : (a : EntryAnswer) → entryPlace a ≤ messageRoom → lineSlots a .value < 2 ^ 32
-line-in (listing.line messageType number size) p = omega arith
+line-in (listing.line messageType number size retired) p = omega arith
 line-in (listing.refused r) p = omega (arith, p)
 
 pub line-fits : (f : List ℕ) (n : ℕ) (a : EntryAnswer) → a ≡ entryAt f n → lineSlots a .value < 2 ^ 32
 line-fits f n a e = rw e (line-in (entryAt f n) (entry-points-short f n))
 
 step-in : (a : StepAnswer) (on : ℕ) → reachedSize a ≤ messageRoom → stepPlace a ≤ messageRoom → stepSlots a on .value < 2 ^ 32
-step-in (message part) on h p = omega (arith, h)
+step-in (message retired part) on h p = omega (arith, h)
 step-in (step.refused r) on h p = omega (arith, p)
 step-in end on h p = omega arith
 
@@ -133,6 +141,13 @@ make-in (make.refused r) p = omega (arith, p)
 
 pub make-fits : (m : List ℕ) (room : ℕ) (a : MakeAnswer) → a ≡ making m room → makeSlots a .value < 2 ^ 32
 make-fits m room a e = rw e (make-in (making m room) (make-points-short m room))
+
+retire-in : (a : RetireAnswer) → retirePlace a ≤ messageRoom → retireSlots a .value < 2 ^ 32
+retire-in retire.done p = omega arith
+retire-in (retire.refused r) p = omega (arith, p)
+
+pub retire-fits : (f : List ℕ) (n room : ℕ) (a : RetireAnswer) → a ≡ retiring f n room → retireSlots a .value < 2 ^ 32
+retire-fits f n room a e = rw e (retire-in (retiring f n room) (retire-points-short f n room))
 
 found-in : (a : Finding) (used : ℕ) → foundSize a ≤ room → foundPlace a ≤ room → foundSlots a used .value < 2 ^ 32
 found-in nothing used h p = omega arith

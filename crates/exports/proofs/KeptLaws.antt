@@ -20,13 +20,15 @@ use Rattle.golden.specs.Comparing as compare
 use Rattle.golden.specs.Listing.{EntryAnswer, line, refused, entryAt}
 use Rattle.golden.specs.Making.{MakeAnswer, made, making}
 use Rattle.golden.specs.Making as make
+use Rattle.golden.specs.Retiring.{RetireAnswer, retiring}
+use Rattle.golden.specs.Retiring as retire
 use Rattle.golden.specs.Stepping.{StepAnswer, end, stepAt, nextAfter}
 use Rattle.golden.specs.Stepping as step
 use Rattle.exports.specs.Envelopes.{readSlots, fieldsAfter, writeSlots, rewriteSlots}
 use Rattle.exports.specs.Feeds.{Lent, foundSlots, fieldsFound, takingFor}
 use Rattle.exports.specs.Frames.{FrameLent, unwrapSlots, lentAfterUnwrapping, WritesFrameForC}
-use Rattle.exports.specs.Goldens.{lineSlots, lineAfter, stepSlots, partAfter, compareSlots, makeSlots}
-use Rattle.exports.specs.Kept.{IsRefusal, KeptOnRefusal, ReadKeeps, WriteKeeps, RewriteKeeps, LineKeeps, StepKeeps, CompareKeeps, MakeKeeps, UnwrapKeeps, WrapKeeps, AcknowledgeKeeps, TakeKeepsFields}
+use Rattle.exports.specs.Goldens.{lineSlots, lineAfter, stepSlots, partAfter, compareSlots, makeSlots, retireSlots}
+use Rattle.exports.specs.Kept.{IsRefusal, KeptOnRefusal, ReadKeeps, WriteKeeps, RewriteKeeps, LineKeeps, StepKeeps, CompareKeeps, MakeKeeps, RetireKeeps, UnwrapKeeps, WrapKeeps, AcknowledgeKeeps, TakeKeepsFields}
 use Rattle.exports.specs.Word.{Slots, word}
 
 -- an answer with the number 0 is no refusal
@@ -59,14 +61,14 @@ pub rewrite-keeps : RewriteKeeps
 rewrite-keeps bytes entry r exit p h = kept-rewrite (rewriting bytes (length entry)) bytes entry exit r (p .0) (p .1) h
 
 kept-line : (a : EntryAnswer) (entry exit : List ℕ) (r : ℕ) → r ≡ word (lineSlots a) → exit ≡ lineAfter a entry → IsRefusal r → exit ≡ entry
-kept-line (line t n s) entry exit r e x h = absurd (no-refusal _ r refl e h)
+kept-line (line t n s retired) entry exit r e x h = absurd (no-refusal _ r refl e h)
 kept-line (refused n) entry exit r e x h = x
 
 pub line-keeps : LineKeeps
 line-keeps f n entry r exit p h = kept-line (entryAt f n) entry exit r (p .0) (p .1) h
 
 kept-step : (a : StepAnswer) (on : ℕ) (entry exit : List ℕ) (r : ℕ) → r ≡ word (stepSlots a on) → exit ≡ partAfter a entry → IsRefusal r → exit ≡ entry
-kept-step (step.message part) on entry exit r e x h = absurd (no-refusal _ r refl e h)
+kept-step (step.message retired part) on entry exit r e x h = absurd (no-refusal _ r refl e h)
 kept-step (step.refused n) on entry exit r e x h = x
 kept-step end on entry exit r e x h = x
 
@@ -91,6 +93,13 @@ kept-make (make.refused n) m entry exit r e x h = x
 
 pub make-keeps : MakeKeeps
 make-keeps m entry r exit p h = kept-make (making m (length entry)) m entry exit r (p .0) (p .1) h
+
+kept-retire : (a : RetireAnswer) (f : List ℕ) (n : ℕ) (entry exit : List ℕ) (r : ℕ) → r ≡ word (retireSlots a) → exit ≡ retire.afterRetiring a f n entry → IsRefusal r → exit ≡ entry
+kept-retire retire.done f n entry exit r e x h = absurd (no-refusal _ r refl e h)
+kept-retire (retire.refused q) f n entry exit r e x h = x
+
+pub retire-keeps : RetireKeeps
+retire-keeps f n entry r exit p h = kept-retire (retiring f n (length entry)) f n entry exit r (p .0) (p .1) h
 
 kept-unwrap : (a : UnwrapAnswer) (entry exit : FrameLent) (r : ℕ) → r ≡ word (unwrapSlots a) → exit ≡ lentAfterUnwrapping a entry → IsRefusal r → exit ≡ entry
 kept-unwrap (unwrap.message c p f) entry exit r e x h = absurd (no-refusal _ r refl e h)

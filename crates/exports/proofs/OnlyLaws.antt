@@ -10,7 +10,7 @@ use Rattle.golden.specs.Finding.{NameFields}
 use Rattle.exports.specs.Envelopes.{ReadsForC, WritesForC, RewritesForC, SplitsForC, JoinsForC, JudgesLatenessForC, JudgesSequenceForC}
 use Rattle.exports.specs.Feeds.{Lent, TakesForC, EndsForC, RestartsForC, HoldsForC}
 use Rattle.exports.specs.Frames.{FrameLent, UnwrapsForC, WrapsForC, AcknowledgesForC}
-use Rattle.exports.specs.Goldens.{CountsForC, ChecksForC, FindsForC, EntersForC, StepsForC, ComparesForC, MakesForC}
+use Rattle.exports.specs.Goldens.{CountsForC, CountsRetiredForC, ChecksForC, FindsForC, EntersForC, StepsForC, ComparesForC, MakesForC, RetiresForC}
 use Rattle.exports.specs.Verdicts.{JudgesForC, JudgesPlacesForC}
 
 only-that : {A : Type 0} (x : A) → Only₁ (λ (r : A). r ≡ x)
@@ -43,6 +43,9 @@ only-judges-sequence-for-c old new = only-that _
 pub only-counts-for-c : (f : List ℕ) → Only₁ (CountsForC f)
 only-counts-for-c f = only-that _
 
+pub only-counts-retired-for-c : (f : List ℕ) → Only₁ (CountsRetiredForC f)
+only-counts-retired-for-c f = only-that _
+
 pub only-checks-for-c : (f : List ℕ) → Only₁ (ChecksForC f)
 only-checks-for-c f = only-that _
 
@@ -60,6 +63,9 @@ only-compares-for-c f n radio entry = only-those _ _
 
 pub only-makes-for-c : (m entry : List ℕ) → Only₂ (MakesForC m entry)
 only-makes-for-c m entry = only-those _ _
+
+pub only-retires-for-c : (f : List ℕ) (n : ℕ) (entry : List ℕ) → Only₂ (RetiresForC f n entry)
+only-retires-for-c f n entry = only-those _ _
 
 pub only-judges-for-c : (bytes : List ℕ) → Only₂ (JudgesForC bytes)
 only-judges-for-c bytes = only-those _ _

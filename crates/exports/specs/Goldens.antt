@@ -1,6 +1,7 @@
 -- The golden file's operations as C sees them: each answer as a word, and what the lent arrays then hold.
 -- The answers themselves are those of the crate `golden`.
 use Prim.Native.Nat.{ℕ, _-_}
+use mathlib.Core.Bool.{Bool, cond}
 use mathlib.Core.List.{List, [], _∷_}
 use mathlib.Core.Path.{_≡_}
 use lib.ListN.{length}
@@ -9,10 +10,12 @@ use Rattle.golden.specs.Comparing.{CompareAnswer, same, different, comparing, a
 use Rattle.golden.specs.Comparing as compare
 use Rattle.golden.specs.Finding.{NameFields, FindAnswer, found, finding}
 use Rattle.golden.specs.Finding as find
-use Rattle.golden.specs.Listing.{CountAnswer, counting, EntryAnswer, line, entryAt}
+use Rattle.golden.specs.Listing.{CountAnswer, counting, countingRetired, EntryAnswer, line, entryAt}
 use Rattle.golden.specs.Listing as listing
 use Rattle.golden.specs.Making.{MakeAnswer, made, making, afterMaking}
 use Rattle.golden.specs.Making as make
+use Rattle.golden.specs.Retiring.{RetireAnswer, retiring, afterRetiring}
+use Rattle.golden.specs.Retiring as retire
 use Rattle.golden.specs.Stepping.{StepAnswer, message, end, stepAt, nextAfter}
 use Rattle.golden.specs.Stepping as step
 use Rattle.exports.specs.Word.{Slots, slots, word, done, sized, refusedWith}
@@ -26,6 +29,10 @@ countSlots (listing.refused r) = refusedWith r 0
 -- what `morlewen_records` promises
 abbrev pub CountsForC : List ℕ → ℕ → Type 0
 CountsForC f r = r ≡ word (countSlots (counting f))
+
+-- what `morlewen_retired_records` promises
+abbrev pub CountsRetiredForC : List ℕ → ℕ → Type 0
+CountsRetiredForC f r = r ≡ word (countSlots (countingRetired f))
 
 abbrev pub checkSlots : CheckAnswer → Slots
 checkSlots (counted n) = slots 0 0 n 0
@@ -48,14 +55,19 @@ nameFor messageType number = record { messageType = messageType; number = number
 abbrev pub FindsForC : List ℕ → NameFields → ℕ → Type 0
 FindsForC f name r = r ≡ word (findSlots (finding f name))
 
+-- ---- where a record is good, the second slot tells whether it is retired (K7)
+
+abbrev pub markOf : Bool → ℕ
+markOf retired = cond retired 1 0
+
 -- ---- a line of the listing
 
 abbrev pub lineSlots : EntryAnswer → Slots
-lineSlots (line messageType number size) = done
+lineSlots (line messageType number size retired) = slots 0 (markOf retired) 0 0
 lineSlots (listing.refused r) = refusedWith r 0
 
 abbrev pub lineAfter : EntryAnswer → List ℕ → List ℕ
-lineAfter (line messageType number size) entry = messageType ∷ number ∷ size ∷ []
+lineAfter (line messageType number size retired) entry = messageType ∷ number ∷ size ∷ []
 lineAfter (listing.refused r) entry = entry
 
 -- what `morlewen_line` promises
@@ -65,12 +77,12 @@ EntersForC f n entry r exit = (r ≡ word (lineSlots (entryAt f n))) × (exit �
 -- ---- step: the count is by how many records the walk goes on, the value the message's size, 0 at the end
 
 abbrev pub stepSlots : StepAnswer → ℕ → Slots
-stepSlots (message part) on = slots 0 0 on (part .size)
+stepSlots (message retired part) on = slots 0 (markOf retired) on (part .size)
 stepSlots (step.refused r) on = refusedWith r on
 stepSlots end on = slots 0 0 on 0
 
 abbrev pub partAfter : StepAnswer → List ℕ → List ℕ
-partAfter (message part) entry = part .place ∷ part .size ∷ []
+partAfter (message retired part) entry = part .place ∷ part .size ∷ []
 partAfter (step.refused r) entry = entry
 partAfter end entry = entry
 
@@ -100,3 +112,14 @@ makeSlots (make.refused r) = refusedWith r 0
 -- what `morlewen_make` promises
 abbrev pub MakesForC : List ℕ → List ℕ → ℕ → List ℕ → Type 0
 MakesForC m entry r exit = (r ≡ word (makeSlots (making m (length entry)))) × (exit ≡ afterMaking (making m (length entry)) m entry)
+
+-- ---- retire
+
+abbrev pub retireSlots : RetireAnswer → Slots
+retireSlots retire.done = done
+retireSlots (retire.refused r) = refusedWith r 0
+
+-- what `morlewen_retire` promises
+abbrev pub RetiresForC : List ℕ → ℕ → List ℕ → ℕ → List ℕ → Type 0
+RetiresForC f n entry r exit =
+    (r ≡ word (retireSlots (retiring f n (length entry)))) × (exit ≡ afterRetiring (retiring f n (length entry)) f n entry)

@@ -7,7 +7,7 @@ use Rattle.envelope.specs.Message.{Given}
 use Rattle.exports.specs.Envelopes.{ReadsForC, WritesForC, RewritesForC}
 use Rattle.exports.specs.Feeds.{Lent, TakesForC}
 use Rattle.exports.specs.Frames.{FrameLent, UnwrapsForC, WrapsForC, AcknowledgesForC}
-use Rattle.exports.specs.Goldens.{EntersForC, StepsForC, ComparesForC, MakesForC}
+use Rattle.exports.specs.Goldens.{EntersForC, StepsForC, ComparesForC, MakesForC, RetiresForC}
 use Rattle.exports.specs.Word.{unword}
 
 -- an answer whose number is not 0
@@ -37,6 +37,9 @@ CompareKeeps = (f : List ℕ) (n : ℕ) (radio entry : List ℕ) → KeptOnRefus
 
 abbrev pub MakeKeeps : Type 0
 MakeKeeps = (m entry : List ℕ) → KeptOnRefusal (MakesForC m entry) entry
+
+abbrev pub RetireKeeps : Type 0
+RetireKeeps = (f : List ℕ) (n : ℕ) (entry : List ℕ) → KeptOnRefusal (RetiresForC f n entry) entry
 
 abbrev pub UnwrapKeeps : Type 0
 UnwrapKeeps = (bytes : List ℕ) (entry : FrameLent) → KeptOnRefusal (UnwrapsForC bytes entry) entry

@@ -6,8 +6,9 @@ ghost use Rattle.golden.specs.Comparing.{toldComparison};
 ghost use Rattle.golden.specs.Finding.{toldFinding};
 ghost use Rattle.golden.specs.Listing.{toldCounting, toldEntry};
 ghost use Rattle.golden.specs.Making.{toldMaking};
+ghost use Rattle.golden.specs.Retiring.{toldRetiring};
 ghost use Rattle.golden.specs.Stepping.{toldReached};
-ghost use Rattle.exports.specs.Goldens.{nameFor, countSlots, CountsForC, checkSlots, ChecksForC, findSlots, FindsForC, lineSlots, lineAfter, EntersForC, stepSlots, partAfter, StepsForC, compareSlots, ComparesForC, makeSlots, MakesForC};
+ghost use Rattle.exports.specs.Goldens.{nameFor, countSlots, CountsForC, CountsRetiredForC, checkSlots, ChecksForC, findSlots, FindsForC, markOf, lineSlots, lineAfter, EntersForC, stepSlots, partAfter, StepsForC, compareSlots, ComparesForC, makeSlots, MakesForC, retireSlots, RetiresForC};
 ghost use Rattle.exports.specs.Word.{word};
 use crate::answers::answer;
 use crate::answers::refused_answer;
@@ -19,12 +20,15 @@ use golden::Finding;
 use golden::Making;
 use golden::Name;
 use golden::Reached;
+use golden::Retiring;
 use golden::check;
 use golden::compare;
 use golden::count;
+use golden::count_retired;
 use golden::entry_at;
 use golden::find;
 use golden::make;
+use golden::retire;
 use golden::step;
 
 // How many numbers a line of the listing is, and a part of the file.
@@ -37,6 +41,13 @@ pub extern "C" fn morlewen_records(file: &[u8]) -> u64
     ensures { λ r. ⌜ CountsForC (now (file .entry)) r ⌝ }
 {
     count_word(count(file))
+}
+
+#[no_mangle]
+pub extern "C" fn morlewen_retired_records(file: &[u8]) -> u64
+    ensures { λ r. ⌜ CountsRetiredForC (now (file .entry)) r ⌝ }
+{
+    count_word(count_retired(file))
 }
 
 #[no_mangle]
@@ -95,6 +106,13 @@ pub extern "C" fn morlewen_make(message: &[u8], buffer: &mut [u8]) -> u64
     make_word(make(message, buffer))
 }
 
+#[no_mangle]
+pub extern "C" fn morlewen_retire(file: &[u8], record: usize, buffer: &mut [u8]) -> u64
+    ensures { λ r. ⌜ RetiresForC (now (file .entry)) «record» (now (buffer .entry)) r (now (buffer .exit)) ⌝ }
+{
+    retire_word(retire(file, record, buffer))
+}
+
 fn count_word(counting: Counting) -> u64
     requires { ⌜ (countSlots (toldCounting counting) .count < 2 ^ 16) × (countSlots (toldCounting counting) .value < 2 ^ 32) ⌝ }
     ensures { λ r. ⌜ r ≡ word (countSlots (toldCounting counting)) ⌝ }
@@ -134,7 +152,8 @@ fn line_word(found: Entry) -> u64
             message_type: _,
             number: _,
             size: _,
-        } => answer(0, 0, 0, 0),
+            retired,
+        } => answer(0, mark_of(retired), 0, 0),
         Entry::Refused(refusal) => refused_answer(refusal.numbers(), 0),
     }
 }
@@ -147,6 +166,7 @@ fn put_line(found: Entry, line: &mut [u64; LINE])
             message_type,
             number,
             size,
+            retired: _,
         } => {
             *line = [message_type as u64, number as u64, size as u64];
         }
@@ -159,7 +179,7 @@ fn step_word(reached: Reached, on: usize) -> u64
     ensures { λ r. ⌜ r ≡ word (stepSlots (toldReached reached) on) ⌝ }
 {
     match reached {
-        Reached::Message(part) => answer(0, 0, on, part.size),
+        Reached::Message { part, retired } => answer(0, mark_of(retired), on, part.size),
         Reached::Refused(refusal) => refused_answer(refusal.numbers(), on),
         Reached::End => answer(0, 0, on, 0),
     }
@@ -169,7 +189,10 @@ fn put_part(reached: Reached, part: &mut [u64; PART])
     ensures { λ _. ⌜ now (part .exit) ≡ partAfter (toldReached reached) (now (part .entry)) ⌝ }
 {
     match reached {
-        Reached::Message(message) => {
+        Reached::Message {
+            part: message,
+            retired: _,
+        } => {
             *part = [message.place as u64, message.size as u64];
         }
         Reached::Refused(_) => {}
@@ -196,4 +219,23 @@ fn make_word(making: Making) -> u64
         Making::Made => answer(0, 0, 0, 0),
         Making::Refused(refusal) => refused_answer(refusal.numbers(), 0),
     }
+}
+
+fn retire_word(retiring: Retiring) -> u64
+    requires { ⌜ retireSlots (toldRetiring retiring) .value < 2 ^ 32 ⌝ }
+    ensures { λ r. ⌜ r ≡ word (retireSlots (toldRetiring retiring)) ⌝ }
+{
+    match retiring {
+        Retiring::Done => answer(0, 0, 0, 0),
+        Retiring::Refused(refusal) => refused_answer(refusal.numbers(), 0),
+    }
+}
+
+fn mark_of(retired: bool) -> u8
+    ensures { λ r. ⌜ r ≡ markOf retired ⌝ }
+{
+    if retired {
+        return 1;
+    }
+    0
 }

@@ -84,7 +84,8 @@ of-radio g r f e (accepted x) q = rw (never-a-beginning g r f x e q)
 of-record : (f : List ℕ) (n : ℕ) (radio : List ℕ) (j : Judged) → judgedAt f n ≡ j
     → withRecord (messageOf (recordAt f n)) radio j ≡ withRecordAnd32 (messageOf (recordAt f n)) radio j
 of-record f n radio (bad x) e = refl
-of-record f n radio (good x) e = of-radio (messageOf (recordAt f n)) radio x (good-at f n x e .accepts) (reading radio) refl
+of-record f n radio (good true x) e = refl
+of-record f n radio (good false x) e = of-radio (messageOf (recordAt f n)) radio x (good-at f n false x e .accepts) (reading radio) refl
 
 pub compare-is-unchanged : CompareIsUnchanged
 unfolding comparing comparingWith32

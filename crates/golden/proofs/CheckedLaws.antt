@@ -1,5 +1,5 @@
--- Check passes exactly the files whose records are all good and bear names apart, and names the first bad record of any other, or the later of the first two of one name.
--- Inductions on the records that are left, behind a sound beginning. Where it passes, find answers the only record of the name, or 27.
+-- Check passes exactly the files whose records are all good, the live ones with names apart, and names the first bad record of any other, or the later of the first two live ones of one name.
+-- Inductions on the records that are left, behind a sound beginning. Where it passes, find answers the only live record of the name, or 27.
 use mathlib.Core.Bool.{Bool, true, false, cond, _&&_}
 use mathlib.Core.List.{List, [], _∷_}
 use mathlib.Core.Path.{_≡_, refl, ap, ap₂, sym, _∙_, subst}
@@ -63,10 +63,10 @@ module _ (f : List ℕ) (h : badFile f ≡ false) where
   verdict-here : (k : ℕ) → k < countOf f → Sound f k → (b : Bool) → repeats f k ≡ b → (j : Judged) → judgedAt f k ≡ j → (others : CheckAnswer)
       → (Sound f (k + 1) → Verdict f others) → Verdict f (unlessBad k b j others)
   verdict-here k l s b q (bad r) e others later = refuses k r (bad-record k r h l e s)
-  verdict-here k l s true q (good fields) e others later =
+  verdict-here k l s true q (good retired fields) e others later =
       let b = earlier f k q in
-      refuses k (plainly 26) (repeated (b .number) k h l (record { fields = fields; judged = e }) (b .within) (b .passes) s)
-  verdict-here k l s false q (good fields) e others later = later (sound-more f k s (record { fields = fields; judged = e }) q)
+      refuses k (plainly 26) (repeated (b .number) k h l (record { retired = retired; fields = fields; judged = e }) (b .within) (b .passes) s)
+  verdict-here k l s false q (good retired fields) e others later = later (sound-more f k s (record { retired = retired; fields = fields; judged = e }) q)
 
   verdict-from : (left k : ℕ) → k + left ≡ countOf f → Sound f k → Verdict f (checkFrom f k left)
   unfolding checkFrom
@@ -137,7 +137,7 @@ first-refused-is-named f _ _ (repeated i n h l g b p s) =
 
 one-name-pairs : (f : List ℕ) (i k : ℕ) → OneName f i k → pairs (judgedAt f k) (judgedAt f i) ≡ true
 one-name-pairs f i k o =
-    rw (o .first-good, o .second-good)
+    rw (o .first-lives, o .second-lives)
     (ap₂ (λ (x y : Bool). x && y)
     (eq-eqb (o .first .header .messageType) (o .second .header .messageType) (o .same-type))
     (eq-eqb (o .first .header .number) (o .second .header .number) (o .same-number)))
@@ -146,17 +146,19 @@ pub no-two-of-one-name : NoTwoOfOneName
 no-two-of-one-name f n i k e a b o = true-is-not-false (one-name-pairs f i k o) (checked-are-sound f n e .sound .apart i k a b)
 
 pairs-one-name : (f : List ℕ) (i k : ℕ) (x y : Judged) → judgedAt f k ≡ x → judgedAt f i ≡ y → pairs x y ≡ true → OneName f i k
-pairs-one-name f i k (good a) (good b) ex ey p =
+pairs-one-name f i k (good true a) y ex ey p = absurd (true-is-not-false p refl)
+pairs-one-name f i k (good false a) (good true b) ex ey p = absurd (true-is-not-false p refl)
+pairs-one-name f i k (good false a) (good false b) ex ey p =
     let q = both (eqb (b .header .messageType) (a .header .messageType)) (eqb (b .header .number) (a .header .number)) p in
     record {
       first = b;
       second = a;
-      first-good = ey;
-      second-good = ex;
+      first-lives = ey;
+      second-lives = ex;
       same-type = eqb-true (b .header .messageType) (a .header .messageType) (q .0);
       same-number = eqb-true (b .header .number) (a .header .number) (q .1);
     }
-pairs-one-name f i k (good a) (bad r) ex ey p = absurd (true-is-not-false p refl)
+pairs-one-name f i k (good false a) (bad r) ex ey p = absurd (true-is-not-false p refl)
 pairs-one-name f i k (bad r) y ex ey p = absurd (true-is-not-false p refl)
 
 -- of the reasons for a refusal only that of two of one name is told as 26
@@ -176,7 +178,7 @@ pub later-is-refused : LaterIsRefused
 later-is-refused f k h w =
     let o = w .one-name in
     first-refused-is-named f k (plainly 26)
-    (repeated (w .earlier) k h (w .there) (record { fields = o .second; judged = o .second-good }) (w .before) (one-name-pairs f (w .earlier) k o) (w .sound))
+    (repeated (w .earlier) k h (w .there) (record { retired = false; fields = o .second; judged = o .second-lives }) (w .before) (one-name-pairs f (w .earlier) k o) (w .sound))
 
 pub any-two-are-refused : AnyTwoAreRefused
 any-two-are-refused f i k h a l good-to o = by (checking f) refl (verdict f)
@@ -199,10 +201,10 @@ any-two-are-refused f i k h a l good-to o = by (checking f) refl (verdict f)
     by _ e (refuses m r b) = of m r e b (decLt k m)
 
 -- a name that is new to the records before it is new to find too
-not-yet : (f : List ℕ) (i k : ℕ) (name : NameFields) (earlier : Fields) → judgedAt f k ≡ good earlier → nameOf earlier ≡ name → GoodAt f i
+not-yet : (f : List ℕ) (i k : ℕ) (name : NameFields) (earlier : Fields) → judgedAt f k ≡ good false earlier → nameOf earlier ≡ name → GoodAt f i
     → pairs (judgedAt f k) (judgedAt f i) ≡ false → NotNamed f name i
 not-yet f i k name earlier e same g p =
-    record { fields = g .fields; judged = g .judged; other = rw (e, g .judged, same) at p }
+    record { retired = g .retired; fields = g .fields; judged = g .judged; other = rw (e, g .judged, same) at p }
 
 pub earlier-is-found : EarlierIsFound
 earlier-is-found f k h w =
@@ -218,9 +220,9 @@ earlier-is-found f k h w =
     (o .first)
     h
     (omega arith)
-    (o .first-good)
+    (o .first-lives)
     (rw (← same) (has-its-own-name (o .first)))
-    (λ m a. not-yet f m i name (o .first) (o .first-good) same (w .sound .records m (omega arith)) (w .sound .apart m i a b)))
+    (λ m a. not-yet f m i name (o .first) (o .first-lives) same (w .sound .records m (omega arith)) (w .sound .apart m i a b)))
 
 pub fewer-still-pass : FewerStillPass
 fewer-still-pass f g n e t =
@@ -236,7 +238,7 @@ fewer-still-pass f g n e t =
     good-there : (k : ℕ) → k < countOf g → GoodAt g k
     good-there k l =
         let here = sound .records (t .from k) (t .there k l) in
-        record { fields = here .fields; judged = moved k l ∙ here .judged }
+        record { retired = here .retired; fields = here .fields; judged = moved k l ∙ here .judged }
 
     apart-there : (i k : ℕ) → i < k → k < countOf g → pairs (judgedAt g k) (judgedAt g i) ≡ false
     apart-there i k a l =
@@ -256,7 +258,7 @@ finds-the-first f name n e =
     by _ (first-named k fields h l j q before) whole records = first k fields l j q before
     by _ (none-named h others) whole records = none others
 
--- a second record of the name would pair with the first
+-- a second live record of the name would pair with the first
 pub only : (f : List ℕ) (name : NameFields) (n : ℕ) → Sound f n → (k : ℕ) → k < n → isNamed name (judgedAt f k) ≡ true
     → (i : ℕ) → i < n → isNamed name (judgedAt f i) ≡ true → i ≡ k
 only f name n s k l p i m q = by (decLt i k) (decLt k i)

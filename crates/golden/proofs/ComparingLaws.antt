@@ -2,7 +2,7 @@
 -- The step of the walk has judged the record already; its answer is taken back to the definition.
 use mathlib.Core.Bool.{Bool, true, false, cond}
 use mathlib.Core.List.{List}
-use mathlib.Core.Path.{_≡_, refl, sym, _∙_}
+use mathlib.Core.Path.{_≡_, refl, ap, sym, _∙_}
 use Prim.Native.Nat.{ℕ, _+_, _<_}
 use native.Mathlib.Omega.{arith}
 use borrow.Author.Tests.{eq-eqb, ne-eqb}
@@ -48,35 +48,42 @@ refused-so : (f : List ℕ) (n : ℕ) (g radio : List ℕ) (a b : Bool) (j : Jud
 refused-so f n g radio true b j x e = cc
 refused-so f n g radio false true j x e = cc
 refused-so f n g radio false false (bad y) x e = cc
-refused-so f n g radio false false (good fields) x e = cc
+refused-so f n g radio false false (good retired fields) x e = cc
 
 end-so : (f : List ℕ) (n : ℕ) (g radio : List ℕ) (a b : Bool) (j : Judged) → end ≡ cond a (refused (plainly 21)) (cond b end (stepOf f n j))
     → cond a (refused (plainly 21)) (cond b (refused (plainly 22)) (withRecord g radio j)) ≡ refused (plainly 22)
 end-so f n g radio true b j e = cc
 end-so f n g radio false true j e = refl
 end-so f n g radio false false (bad y) e = cc
-end-so f n g radio false false (good fields) e = cc
+end-so f n g radio false false (good retired fields) e = cc
 
 -- a message was answered: the record is good, and the part is its message's
-pub record Answered (f : List ℕ) (n : ℕ) (radio : List ℕ) (p : Span) : Type 0 where
+pub record Answered (f : List ℕ) (n : ℕ) (radio : List ℕ) (retired : Bool) (p : Span) : Type 0 where
   pub fields : Fields
-  pub judged : judgedAt f n ≡ good fields
+  pub judged : judgedAt f n ≡ good retired fields
   pub part : p ≡ messagePart f n
-  pub compared : comparing f n radio ≡ withRadio (messageOf (recordAt f n)) radio (reading radio)
+  pub compared : comparing f n radio ≡ cond retired (refused (plainly 38)) (withRadio (messageOf (recordAt f n)) radio (reading radio))
 
-record Kept (f : List ℕ) (n : ℕ) (g radio : List ℕ) (a b : Bool) (j : Judged) (p : Span) : Type 0 where
+record Kept (f : List ℕ) (n : ℕ) (g radio : List ℕ) (a b : Bool) (j : Judged) (retired : Bool) (p : Span) : Type 0 where
   fields : Fields
-  judged : j ≡ good fields
+  judged : j ≡ good retired fields
   part : p ≡ messagePart f n
-  compared : cond a (refused (plainly 21)) (cond b (refused (plainly 22)) (withRecord g radio j)) ≡ withRadio g radio (reading radio)
+  compared : cond a (refused (plainly 21)) (cond b (refused (plainly 22)) (withRecord g radio j)) ≡ cond retired (refused (plainly 38)) (withRadio g radio (reading radio))
 
-message-so : (f : List ℕ) (n : ℕ) (g radio : List ℕ) (a b : Bool) (j : Judged) (p : Span)
-    → message p ≡ cond a (refused (plainly 21)) (cond b end (stepOf f n j))
-    → Kept f n g radio a b j p
-message-so f n g radio true b j p e = absurd (let z : _≡_ {A = ℕ} 0 1 = cc in omega arith)
-message-so f n g radio false true j p e = absurd (let z : _≡_ {A = ℕ} 0 1 = cc in omega arith)
-message-so f n g radio false false (bad y) p e = absurd (let z : _≡_ {A = ℕ} 0 1 = cc in omega arith)
-message-so f n g radio false false (good x) p e = record { fields = x; judged = refl; part = cc; compared = refl }
+message-so : (f : List ℕ) (n : ℕ) (g radio : List ℕ) (a b : Bool) (j : Judged) (retired : Bool) (p : Span)
+    → message retired p ≡ cond a (refused (plainly 21)) (cond b end (stepOf f n j))
+    → Kept f n g radio a b j retired p
+message-so f n g radio true b j retired p e = absurd (let z : _≡_ {A = ℕ} 0 1 = cc in omega arith)
+message-so f n g radio false true j retired p e = absurd (let z : _≡_ {A = ℕ} 0 1 = cc in omega arith)
+message-so f n g radio false false (bad y) retired p e = absurd (let z : _≡_ {A = ℕ} 0 1 = cc in omega arith)
+message-so f n g radio false false (good mark x) retired p e =
+    let same : mark ≡ retired = cc in
+    record {
+      fields = x;
+      judged = ap (λ (b : Bool). good b x) same;
+      part = cc;
+      compared = ap (λ (b : Bool). cond b (refused (plainly 38)) (withRadio g radio (reading radio))) same;
+    }
 
 module _ (f : List ℕ) (n : ℕ) (radio : List ℕ) where
   pub by-refused : (x : Refused) → refused x ≡ stepAt f n → comparing f n radio ≡ refused x
@@ -87,11 +94,18 @@ module _ (f : List ℕ) (n : ℕ) (radio : List ℕ) where
   unfolding stepAt comparing
   by-end e = end-so f n (messageOf (recordAt f n)) radio (badFile f) (notThere f n) (judgedAt f n) e
 
-  pub by-message : (p : Span) → message p ≡ stepAt f n → Answered f n radio p
+  pub by-message : (retired : Bool) (p : Span) → message retired p ≡ stepAt f n → Answered f n radio retired p
   unfolding stepAt comparing
-  by-message p e =
-      let k = message-so f n (messageOf (recordAt f n)) radio (badFile f) (notThere f n) (judgedAt f n) p e in
+  by-message retired p e =
+      let k = message-so f n (messageOf (recordAt f n)) radio (badFile f) (notThere f n) (judgedAt f n) retired p e in
       record { fields = k .fields; judged = k .judged; part = k .part; compared = k .compared }
+
+-- and whether it is live decides
+pub compared-38 : (o x : CompareOutcome) (retired : Bool) → o ≡ cond retired (refused (plainly 38)) x → retired ≡ true → o ≡ refused (plainly 38)
+compared-38 o x retired e r = rw r at e
+
+pub compared-live : (o x : CompareOutcome) (retired : Bool) → o ≡ cond retired (refused (plainly 38)) x → retired ≡ false → o ≡ x
+compared-live o x retired e r = rw r at e
 
 pub refuses : (o : CompareOutcome) (x : Refused) (l : List ℕ) → o ≡ refused x → (refused x ≡ answerToComparing o) × (l ≡ afterComparing o l)
 unfolding answerToComparing afterComparing

@@ -34,8 +34,8 @@ message-bytes f r b =
     bytes-take (storedLength (recordAt f r)) (drop headSize (recordAt f r))
     (bytes-drop headSize (recordAt f r) (bytes-take recordSize (drop (r * recordSize) f) (bytes-drop (r * recordSize) f b)))
 
-as-judged : (f : List ℕ) (r : ℕ) (g : GoodAt f r) → Good (recordAt f r) (g .fields)
-as-judged f r g = good-at f r (g .fields) (g .judged)
+as-judged : (f : List ℕ) (r : ℕ) (g : GoodAt f r) → Good (recordAt f r) (g .retired) (g .fields)
+as-judged f r g = good-at f r (g .retired) (g .fields) (g .judged)
 
 stored-most : (f : List ℕ) (r : ℕ) → GoodAt f r → storedLength (recordAt f r) ≤ messageRoom
 stored-most f r g = as-judged f r g .most

@@ -70,7 +70,7 @@ pub step-reaches-short : StepReachesShort
 step-reaches-short f n = by (stepAt f n) (reason f n)
   where
     of : (j : Judged) → judgedAt f n ≡ j → reachedSize (stepOf f n j) ≤ messageRoom
-    of (good x) q = good-size f n x q
+    of (good retired x) q = good-size f n retired x q
     of (bad r) q = omega arith
 
     by : (a : StepAnswer) → Reason f n a → reachedSize a ≤ messageRoom
@@ -116,8 +116,9 @@ with-radio g radio hg bytes (accepted f) e = messages-total g radio largestMessa
 with-record : (f : List ℕ) (n : ℕ) (radio : List ℕ) → Bytes radio → (j : Judged) → judgedAt f n ≡ j
     → differenceTotal (answerToComparing (withRecord (messageOf (recordAt f n)) radio j)) ≤ largestMessage
 with-record f n radio bytes (bad r) e = nothing-of r largestMessage
-with-record f n radio bytes (good x) e =
-    let size = good-size f n x e in
+with-record f n radio bytes (good true x) e = nothing-of (plainly 38) largestMessage
+with-record f n radio bytes (good false x) e =
+    let size = good-size f n false x e in
     let short = length-take (storedLength (recordAt f n)) (drop headSize (recordAt f n)) in
     with-radio (messageOf (recordAt f n)) radio (omega (arith, size, short)) bytes (reading radio) refl
 

@@ -18,7 +18,7 @@ use Rattle.envelope.specs.Numbers.{byteAt, twoBytes}
 use Rattle.envelope.specs.Reading.{reading}
 use Rattle.envelope.specs.Refusals.{Refused, plainly, among, Gives}
 use Rattle.golden.specs.File.{mostRecords, largestFile, badFile, countOf, recordAt, judgedAt}
-use Rattle.golden.specs.Record.{recordSize, headSize, messageRoom, storedWord, storedLength, messageOf, badLength, notClear, Judged, good, bad, byReading, judging}
+use Rattle.golden.specs.Record.{recordSize, headSize, messageRoom, storedWord, retiredMark, isRetired, storedLength, messageOf, badLength, notClear, Judged, good, bad, byReading, judging}
 use Rattle.golden.proofs.RecordLaws.{Good, good-record, record-good, record-long}
 
 -- ---- whole files
@@ -100,35 +100,35 @@ same-files f g w e same = ext-getD 0 f g e byte
 -- the first two bytes alone decide the stored length
 pub same-stored : (r s : List ℕ) → byteAt r 0 ≡ byteAt s 0 → byteAt r 1 ≡ byteAt s 1 → storedLength r ≡ storedLength s
 unfolding storedLength storedWord
-same-stored r s a b = twoAt-is r 0 ∙ ap₂ twoBytes a b ∙ sym (twoAt-is s 0)
+same-stored r s a b = ap (λ (w : ℕ). w % retiredMark) (twoAt-is r 0 ∙ ap₂ twoBytes a b ∙ sym (twoAt-is s 0))
 
 -- ---- what a judgement says
 
-pub good-at : (f : List ℕ) (n : ℕ) (fields : Fields) → judgedAt f n ≡ good fields → Good (recordAt f n) fields
+pub good-at : (f : List ℕ) (n : ℕ) (retired : Bool) (fields : Fields) → judgedAt f n ≡ good retired fields → Good (recordAt f n) retired fields
 unfolding judgedAt
-good-at f n fields e = good-record (recordAt f n) fields e
+good-at f n retired fields e = good-record (recordAt f n) retired fields e
 
-pub judged-at : (f : List ℕ) (n : ℕ) (fields : Fields) → Good (recordAt f n) fields → judgedAt f n ≡ good fields
+pub judged-at : (f : List ℕ) (n : ℕ) (retired : Bool) (fields : Fields) → Good (recordAt f n) retired fields → judgedAt f n ≡ good retired fields
 unfolding judgedAt
-judged-at f n fields g = record-good (recordAt f n) fields g
+judged-at f n retired fields g = record-good (recordAt f n) retired fields g
 
 -- a bad record is refused as 23, 24 or 25, in whatever lists have them
 module _ (plain passing : List ℕ) (h23 : among plain 23 ≡ true) (h24 : among plain 24 ≡ true) (h25 : among passing 25 ≡ true) where
   abbrev pub InJudged : Judged → Type 0
-  InJudged (good f) = Unit
+  InJudged (good retired f) = Unit
   InJudged (bad r) = Gives plain passing r
 
-  by-rules : (a b : Bool) (x : Answer) → InJudged (cond a (bad (plainly 23)) (cond b (bad (plainly 24)) (byReading x)))
-  by-rules true b x = h23
-  by-rules false true x = h24
-  by-rules false false (accepted f) = tt
-  by-rules false false (envelope.refused r) = h25
+  by-rules : (a b mark : Bool) (x : Answer) → InJudged (cond a (bad (plainly 23)) (cond b (bad (plainly 24)) (byReading mark x)))
+  by-rules true b mark x = h23
+  by-rules false true mark x = h24
+  by-rules false false mark (accepted f) = tt
+  by-rules false false mark (envelope.refused r) = h25
 
   pub judged-gives : (f : List ℕ) (n : ℕ) → InJudged (judgedAt f n)
   unfolding judgedAt judging
   judged-gives f n =
       let r = recordAt f n in
-      by-rules (badLength (storedLength r)) (notClear r) (reading (messageOf r))
+      by-rules (badLength (storedLength r)) (notClear r) (isRetired r) (reading (messageOf r))
 
 pub bad-gives : (f : List ℕ) (n : ℕ) (r : Refused) → judgedAt f n ≡ bad r → Gives (23 ∷ 24 ∷ []) (25 ∷ []) r
 bad-gives f n r e = subst (InJudged (23 ∷ 24 ∷ []) (25 ∷ []) refl refl refl) e (judged-gives (23 ∷ 24 ∷ []) (25 ∷ []) refl refl refl f n)

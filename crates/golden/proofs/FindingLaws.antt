@@ -1,6 +1,6 @@
 -- Check and find, one record on as their loops meet them; and what opening a record says of its judgement.
 -- `n` is the record at hand, and `count - n` are left with it.
-use mathlib.Core.Bool.{Bool, true, false, cond}
+use mathlib.Core.Bool.{Bool, true, false, cond, not, _&&_}
 use mathlib.Core.List.{List}
 use mathlib.Core.Path.{_≡_, refl, ap, sym, _∙_}
 use Prim.Native.Nat.{ℕ, suc, _+_, _-_, _≤_, _<_}
@@ -12,31 +12,31 @@ use Rattle.golden.specs.Checking as check
 use Rattle.golden.specs.File.{badFile, countOf, recordAt, judgedAt}
 use Rattle.golden.specs.Finding.{NameFields, hasName, nameOf, FindAnswer, decides, findFrom, finding}
 use Rattle.golden.specs.Finding as find
-use Rattle.golden.specs.Helpers.{holding, bad, openedAs, opening, Sight, sought, other, seenAs, isWritten, writtenBefore}
+use Rattle.golden.specs.Helpers.{holding, bad, openedAs, opening, Sight, sought, other, seenAs, isWritten, repeatsBy}
 use Rattle.golden.specs.Pairing.{pairs}
 use Rattle.golden.specs.Record.{storedLength, Judged, good, bad, judging}
 use Rattle.golden.specs.Theorems.{GoodAt}
 use Rattle.golden.proofs.NameLaws.{named-by-bytes}
-use Rattle.golden.proofs.PairingLaws.{below-same}
+use Rattle.golden.proofs.PairingLaws.{below-none, below-same}
 
 -- ---- what opening a record says of its judgement
 
 as-bad : (size : ℕ) (j : Judged) (r : Refused) → bad r ≡ openedAs size j → j ≡ bad r
-as-bad size (good f) r e = cc
+as-bad size (good retired f) r e = cc
 as-bad size (bad x) r e = cc
 
-as-holding : (size l : ℕ) (j : Judged) (f : Fields) → holding l f ≡ openedAs size j → (j ≡ good f) × (l ≡ size)
-as-holding size l (good g) f e = (cc, cc)
-as-holding size l (bad x) f e = (cc, cc)
+as-holding : (size l : ℕ) (j : Judged) (retired : Bool) (f : Fields) → holding l retired f ≡ openedAs size j → (j ≡ good retired f) × (l ≡ size)
+as-holding size l (good mark g) retired f e = (cc, cc)
+as-holding size l (bad x) retired f e = (cc, cc)
 
 pub judged-bad : (s : List ℕ) (n : ℕ) (r : Refused) → bad r ≡ opening (recordAt s n) → judgedAt s n ≡ bad r
 unfolding opening judgedAt
 judged-bad s n r e = as-bad (storedLength (recordAt s n)) (judging (recordAt s n)) r e
 
-pub judged-good : (s : List ℕ) (n l : ℕ) (f : Fields) → holding l f ≡ opening (recordAt s n)
-    → (judgedAt s n ≡ good f) × (l ≡ storedLength (recordAt s n))
+pub judged-good : (s : List ℕ) (n l : ℕ) (retired : Bool) (f : Fields) → holding l retired f ≡ opening (recordAt s n)
+    → (judgedAt s n ≡ good retired f) × (l ≡ storedLength (recordAt s n))
 unfolding opening judgedAt
-judged-good s n l f e = as-holding (storedLength (recordAt s n)) l (judging (recordAt s n)) f e
+judged-good s n l retired f e = as-holding (storedLength (recordAt s n)) l (judging (recordAt s n)) retired f e
 
 -- ---- check
 
@@ -60,10 +60,12 @@ module _ (f : List ℕ) where
       rw (k, e, q)
 
   -- 26 by the bytes of type and number, behind records that are good
-  pub repeats-by-bytes : (n : ℕ) (fields : Fields) → judgedAt f n ≡ good fields → ((k : ℕ) → k < n → GoodAt f k)
-      → repeats f n ≡ writtenBefore f (nameOf fields) n
+  pub repeats-by-bytes : (n : ℕ) (retired : Bool) (fields : Fields) → judgedAt f n ≡ good retired fields → ((k : ℕ) → k < n → GoodAt f k)
+      → repeats f n ≡ repeatsBy retired fields f n
   unfolding repeats
-  repeats-by-bytes n fields e before =
+  repeats-by-bytes n true fields e before =
+      below-none (λ k. pairs (judgedAt f n) (judgedAt f k)) n (λ k l. ap (λ (j : Judged). pairs j (judgedAt f k)) e)
+  repeats-by-bytes n false fields e before =
       below-same (λ k. pairs (judgedAt f n) (judgedAt f k)) (λ k. isWritten (nameOf fields) (recordAt f k)) n
       (λ k l. ap (λ (j : Judged). pairs j (judgedAt f k)) e ∙ named-by-bytes f (nameOf fields) k (before k l))
 
@@ -86,7 +88,7 @@ by-name false n others = refl
 by-sight : (name : NameFields) (n size : ℕ) (j : Judged) (others : FindAnswer)
     → decides name n j others ≡ decided (seenAs name (openedAs size j)) n others
 by-sight name n size (bad r) others = refl
-by-sight name n size (good f) others = by-name (hasName name f) n others
+by-sight name n size (good retired f) others = by-name (not retired && hasName name f) n others
 
 module _ (f : List ℕ) (name : NameFields) where
   pub find-21 : badFile f ≡ true → find.refused (plainly 21) 0 ≡ finding f name

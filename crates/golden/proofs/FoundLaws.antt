@@ -9,6 +9,7 @@ use Rattle.envelope.specs.Fields.{Fields}
 use Rattle.envelope.specs.Refusals.{Refused, plainly, numbersOf, Gives}
 use Rattle.golden.specs.File.{badFile, countOf, judgedAt}
 use Rattle.golden.specs.Finding.{NameFields, hasName, FindAnswer, found, refused, decides, findFrom, finding}
+use Rattle.golden.specs.Pairing.{isNamed}
 use Rattle.golden.specs.Record.{Judged, good, bad}
 use Rattle.golden.specs.Theorems.{NotNamed, FindReason, no-file, first-bad, first-named, none-named, FindGivesItsReason, ReasonSettlesFind}
 use Rattle.golden.proofs.FileLaws.{one-more, bad-gives}
@@ -16,7 +17,7 @@ use Rattle.golden.proofs.FileLaws.{one-more, bad-gives}
 -- ---- the reason
 
 module _ (f : List ℕ) (name : NameFields) where
-  -- all records before k are good and have another name
+  -- all records before k are good, and retired or of another name
   abbrev Before : ℕ → Type 0
   Before k = (i : ℕ) → i < k → NotNamed f name i
 
@@ -24,11 +25,13 @@ module _ (f : List ℕ) (name : NameFields) where
     reason-here : (k : ℕ) → k < countOf f → Before k → (j : Judged) → judgedAt f k ≡ j → (others : FindAnswer)
         → (Before (k + 1) → FindReason f name others) → FindReason f name (decides name k j others)
     reason-here k l before (bad r) e others later = first-bad k r h l e before
-    reason-here k l before (good fields) e others later = by (hasName name fields) refl
+    reason-here k l before (good true fields) e others later =
+        later (one-more (NotNamed f name) k before (record { retired = true; fields = fields; judged = e; other = refl }))
+    reason-here k l before (good false fields) e others later = by (hasName name fields) refl
       where
         by : (b : Bool) → hasName name fields ≡ b → FindReason f name (cond b (found k (k + 1)) others)
         by true q = first-named k fields h l e q before
-        by false q = later (one-more (NotNamed f name) k before (record { fields = fields; judged = e; other = q }))
+        by false q = later (one-more (NotNamed f name) k before (record { retired = false; fields = fields; judged = e; other = q }))
 
     reason-from : (left k : ℕ) → k + left ≡ countOf f → Before k → FindReason f name (findFrom f name k left)
     unfolding findFrom
@@ -47,7 +50,7 @@ find-gives-its-reason f name = by (badFile f) refl
 -- ---- and back
 
 module _ (f : List ℕ) (name : NameFields) where
-  -- records that are good and have another name are passed over
+  -- records that are good, and retired or of another name, are passed over
   passed-over : (k start left : ℕ) → ((i : ℕ) → start ≤ i → i < start + k → NotNamed f name i)
       → findFrom f name start (k + left) ≡ findFrom f name (start + k) left
   unfolding findFrom
@@ -79,24 +82,21 @@ pub reason-settles-find : ReasonSettlesFind
 unfolding finding
 reason-settles-find f name _ (no-file h) = rw h
 reason-settles-find f name _ (first-bad k r h l e before) = find-decides f name k h before (bad r) l e
-reason-settles-find f name _ (first-named k fields h l e q before) = find-decides f name k h before (good fields) l e ∙ rw q
+reason-settles-find f name _ (first-named k fields h l e q before) = find-decides f name k h before (good false fields) l e ∙ rw q
 reason-settles-find f name _ (none-named h others) = find-ends f name (countOf f) h others refl
 
 -- ---- the reason of one answer
 
--- of a record that was passed over, the fields have another name
-pub other-name : (f : List ℕ) (name : NameFields) (k : ℕ) (fields : Fields) → NotNamed f name k → judgedAt f k ≡ good fields → hasName name fields ≡ false
-other-name f name k fields o j = ap (hasName name) (same-fields fields (o .fields) (sym j ∙ o .judged)) ∙ o .other
-  where
-    same-fields : (x y : Fields) → good x ≡ good y → x ≡ y
-    same-fields x y e = cc
+-- of a record that was passed over, the fields have another name, if it is live
+pub other-name : (f : List ℕ) (name : NameFields) (k : ℕ) (fields : Fields) → NotNamed f name k → judgedAt f k ≡ good false fields → hasName name fields ≡ false
+other-name f name k fields o j = ap (isNamed name) (sym j ∙ o .judged) ∙ o .other
 
--- record k is the first of the name
+-- record k is the first live one of the name
 pub record First (f : List ℕ) (name : NameFields) (k : ℕ) : Type 0 where
   pub whole : badFile f ≡ false
   pub there : k < countOf f
   pub fields : Fields
-  pub judged : judgedAt f k ≡ good fields
+  pub judged : judgedAt f k ≡ good false fields
   pub named : hasName name fields ≡ true
   pub before : (i : ℕ) → i < k → NotNamed f name i
 
@@ -112,7 +112,7 @@ found-is-first f name k opened e = by (finding f name) (find-gives-its-reason f 
         (rw (← same) (record { whole = h; there = l; fields = fields; judged = j; named = n; before = before }), omega arith)
     by _ (none-named h others) q = absurd (let z : _≡_ {A = ℕ} 0 1 = cc in omega arith)
 
--- no record has the name, and all are good
+-- no live record has the name, and all are good
 pub record Missing (f : List ℕ) (name : NameFields) : Type 0 where
   pub whole : badFile f ≡ false
   pub others : (i : ℕ) → i < countOf f → NotNamed f name i

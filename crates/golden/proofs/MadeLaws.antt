@@ -23,7 +23,8 @@ use Rattle.golden.specs.Comparing.{differsAt, differing, positions, comp
 use Rattle.golden.specs.File.{badFile, countOf, recordAt, judgedAt}
 use Rattle.golden.specs.Finding.{nameOf, found, finding}
 use Rattle.golden.specs.Making.{recordOf, MakeAnswer, made, refused, makingRead, making, afterMaking}
-use Rattle.golden.specs.Record.{recordSize, headSize, messageRoom, storedWord, storedLength, messageOf, allZero, badLength, notClear, good, bad, byReading, judging}
+use Rattle.golden.specs.Record.{recordSize, headSize, messageRoom, storedWord, retiredMark, isRetired, storedLength, messageOf, allZero, badLength, notClear, good, bad, byReading, judging}
+use Rattle.golden.specs.Retiring.{done, retiring}
 use Rattle.golden.specs.Theorems.{first-named, MadeIsGood, NeverTooShort}
 use Rattle.golden.proofs.CheckedLaws.{sound-are-checked}
 use Rattle.golden.proofs.FileLaws.{file-whole, judged-at}
@@ -35,13 +36,22 @@ use Rattle.golden.proofs.SelectLaws.{select-none}
 
 -- ---- the parts of a record that was made
 
-stored-back : (m : List ℕ) → storedLength (recordOf m) ≡ length m
-unfolding storedLength storedWord recordOf
-stored-back m = twoAt-is (recordOf m) 0 ∙ two-back (length m)
+word-back : (m : List ℕ) → storedWord (recordOf m) ≡ length m
+unfolding storedWord recordOf
+word-back m = twoAt-is (recordOf m) 0 ∙ two-back (length m)
 
-message-back : (m : List ℕ) → messageOf (recordOf m) ≡ m
+stored-back : (m : List ℕ) → length m ≤ messageRoom → storedLength (recordOf m) ≡ length m
+unfolding storedLength
+stored-back m short = omega (arith, word-back m)
+
+-- and it is live
+live-back : (m : List ℕ) → length m ≤ messageRoom → isRetired (recordOf m) ≡ false
+unfolding isRetired
+live-back m short = lt-leb retiredMark (storedWord (recordOf m)) (omega (arith, word-back m))
+
+message-back : (m : List ℕ) → length m ≤ messageRoom → messageOf (recordOf m) ≡ m
 unfolding recordOf
-message-back m = ap (λ (n : ℕ). take n (drop headSize (recordOf m))) (stored-back m) ∙ take-append-seam m (replicate (messageRoom - length m) 0)
+message-back m short = ap (λ (n : ℕ). take n (drop headSize (recordOf m))) (stored-back m short) ∙ take-append-seam m (replicate (messageRoom - length m) 0)
 
 zeros-clear : (k : ℕ) → allZero (replicate k 0) ≡ true
 unfolding allZero
@@ -54,9 +64,9 @@ after-message m =
     drop-append-add (inTwo (length m)) (m ++ replicate (messageRoom - length m) 0) (length m)
     ∙ drop-append-seam m (replicate (messageRoom - length m) 0)
 
-clear-back : (m : List ℕ) → notClear (recordOf m) ≡ false
-clear-back m =
-    ap (λ (r : List ℕ). not (allZero r)) (ap (λ (n : ℕ). drop (headSize + n) (recordOf m)) (stored-back m) ∙ after-message m)
+clear-back : (m : List ℕ) → length m ≤ messageRoom → notClear (recordOf m) ≡ false
+clear-back m short =
+    ap (λ (r : List ℕ). not (allZero r)) (ap (λ (n : ℕ). drop (headSize + n) (recordOf m)) (stored-back m short) ∙ after-message m)
     ∙ ap not (zeros-clear (messageRoom - length m))
 
 -- ---- comparing a message with itself
@@ -90,17 +100,18 @@ module _ (m : List ℕ) (fields : Fields) (short : length m ≤ messageRoom) (ac
   first = take-all recordSize file (omega (arith, size))
 
   pub message-made : messageOf (recordAt file 0) ≡ m
-  message-made = rw first (message-back m)
+  message-made = rw first (message-back m short)
 
-  judged : judgedAt file 0 ≡ good fields
+  judged : judgedAt file 0 ≡ good false fields
   judged =
-      judged-at file 0 fields
+      judged-at file 0 false fields
       (rw first
       (record {
-        least = rw (stored-back m) (accepted-least m fields accepts);
-        most = rw (stored-back m) short;
-        clear = clear-behind file (clear-back m);
-        accepts = rw (message-back m) accepts;
+        least = rw (stored-back m short) (accepted-least m fields accepts);
+        most = rw (stored-back m short) short;
+        clear = clear-behind file (clear-back m short);
+        accepts = rw (message-back m short) accepts;
+        mark = sym (live-back m short);
       }))
 
   pub checks : checking file ≡ counted 1
@@ -111,14 +122,14 @@ module _ (m : List ℕ) (fields : Fields) (short : length m ≤ messageRoom) (ac
         count = sym one;
         sound =
             record {
-              records = λ k l. let e : k ≡ 0 = omega arith in rw e (record { fields = fields; judged = judged });
+              records = λ k l. let e : k ≡ 0 = omega arith in rw e (record { retired = false; fields = fields; judged = judged });
               apart = λ i k a l. absurd (omega arith);
             };
       })
 
   pub compared : comparing file 0 m ≡ positions []
   unfolding comparing
-  compared = rw (whole, one, judged, accepts, first, message-back m) (ap positions (no-differences m))
+  compared = rw (whole, one, judged, accepts, first, message-back m short) (ap positions (no-differences m))
 
   pub compares : answerToComparing (comparing file 0 m) ≡ same
   unfolding answerToComparing
@@ -128,6 +139,11 @@ module _ (m : List ℕ) (fields : Fields) (short : length m ≤ messageRoom) (ac
   finds =
       reason-settles-find file (nameOf fields) (found 0 1)
       (first-named 0 fields whole (omega (arith, one)) judged (has-its-own-name fields) (λ i l. absurd (omega arith)))
+
+  -- and it can be retired
+  pub retires : retiring file 0 recordSize ≡ done
+  unfolding retiring
+  retires = rw (whole, one, judged, size)
 
 -- ---- what made a record: a message that is short enough and accepted
 
@@ -162,18 +178,18 @@ made-is-good m entry exit a kept e =
 
 -- ---- 25 never carries 1
 
-bad-reading : (a b : Bool) (x : Answer) (r : Refusal) → cond a (bad (plainly 23)) (cond b (bad (plainly 24)) (byReading x)) ≡ bad (passingOn 25 r)
+bad-reading : (a b mark : Bool) (x : Answer) (r : Refusal) → cond a (bad (plainly 23)) (cond b (bad (plainly 24)) (byReading mark x)) ≡ bad (passingOn 25 r)
     → (a ≡ false) × (x ≡ envelope.refused r)
-bad-reading true b x r e = absurd (let z : _≡_ {A = ℕ} 0 1 = cc in omega arith)
-bad-reading false true x r e = absurd (let z : _≡_ {A = ℕ} 0 1 = cc in omega arith)
-bad-reading false false (accepted f) r e = absurd (let z : _≡_ {A = ℕ} 0 1 = cc in omega arith)
-bad-reading false false (envelope.refused q) r e = (refl, cc)
+bad-reading true b mark x r e = absurd (let z : _≡_ {A = ℕ} 0 1 = cc in omega arith)
+bad-reading false true mark x r e = absurd (let z : _≡_ {A = ℕ} 0 1 = cc in omega arith)
+bad-reading false false mark (accepted f) r e = absurd (let z : _≡_ {A = ℕ} 0 1 = cc in omega arith)
+bad-reading false false mark (envelope.refused q) r e = (refl, cc)
 
 pub never-too-short : NeverTooShort
 unfolding judgedAt judging
 never-too-short f n x l e one =
     let r = recordAt f n in
-    let b = bad-reading (badLength (storedLength r)) (notClear r) (reading (messageOf r)) x e in
+    let b = bad-reading (badLength (storedLength r)) (notClear r) (isRetired r) (reading (messageOf r)) x e in
     let low = length-least (storedLength r) (b .0) in
     let high = length-most (storedLength r) (b .0) in
     long-not-1 (messageOf r) x (rw (message-long f n l high) low) (b .1) one

@@ -1,6 +1,6 @@
 -- Names: what a name says of the fields that have it, and where the name of a good record stands in its bytes.
 -- The message begins behind the stored length, and is long enough to hold type and number.
-use mathlib.Core.Bool.{Bool, true, false, _&&_}
+use mathlib.Core.Bool.{Bool, true, false, not, _&&_}
 use mathlib.Core.List.{List}
 use mathlib.Core.Path.{_≡_, refl, ap, ap₂, sym, _∙_}
 use Prim.Native.Nat.{ℕ, _+_, _-_, _*_, _<_}
@@ -19,7 +19,7 @@ use Rattle.golden.specs.File.{recordAt, judgedAt}
 use Rattle.golden.specs.Finding.{NameFields, hasName, nameOf}
 use Rattle.golden.specs.Helpers.{writtenName, isWritten}
 use Rattle.golden.specs.Pairing.{isNamed}
-use Rattle.golden.specs.Record.{recordSize, headSize, messageOf, good}
+use Rattle.golden.specs.Record.{recordSize, headSize, isRetired, messageOf, good}
 use Rattle.golden.specs.Theorems.{GoodAt}
 use Rattle.golden.proofs.FileLaws.{message-place, good-at}
 use Rattle.golden.proofs.RecordLaws.{Good}
@@ -37,11 +37,13 @@ pub named-so : (name : NameFields) (f : Fields) → hasName name f ≡ true → 
 named-so name f e = same-name (nameOf f) name e
 
 pub written-so : (name : NameFields) (r : List ℕ) → isWritten name r ≡ true → writtenName r ≡ name
-written-so name r e = same-name (writtenName r) name e
+written-so name r e =
+    same-name (writtenName r) name
+    (both (not (isRetired r)) (eqb (writtenName r .messageType) (name .messageType) && eqb (writtenName r .number) (name .number)) e .1)
 
 -- ---- where it stands
 
-module _ (r : List ℕ) (fields : Fields) (g : Good r fields) where
+module _ (r : List ℕ) (retired : Bool) (fields : Fields) (g : Good r retired fields) where
   byte : (k : ℕ) → k < leastSize → byteAt (messageOf r) k ≡ byteAt r (headSize + k)
   byte k l = message-place r k (omega (arith, g .least))
 
@@ -60,29 +62,36 @@ module _ (r : List ℕ) (fields : Fields) (g : Good r fields) where
       let n = accepted-number (messageOf r) fields (g .accepts) ∙ number-at in
       λ i. record { messageType = t i; number = n i }
 
-pub name-is-written : (f : List ℕ) (n : ℕ) (fields : Fields) → judgedAt f n ≡ good fields → nameOf fields ≡ writtenName (recordAt f n)
-name-is-written f n fields e = written (recordAt f n) fields (good-at f n fields e)
+pub name-is-written : (f : List ℕ) (n : ℕ) (retired : Bool) (fields : Fields) → judgedAt f n ≡ good retired fields → nameOf fields ≡ writtenName (recordAt f n)
+name-is-written f n retired fields e = written (recordAt f n) retired fields (good-at f n retired fields e)
 
--- so of a good record the bytes tell whether it has the name
+pub mark-is-written : (f : List ℕ) (n : ℕ) (retired : Bool) (fields : Fields) → judgedAt f n ≡ good retired fields → retired ≡ isRetired (recordAt f n)
+mark-is-written f n retired fields e = good-at f n retired fields e .mark
+
+-- so of a good record the bytes tell whether it is live and has the name
 pub named-by-bytes : (f : List ℕ) (name : NameFields) (k : ℕ) → GoodAt f k → isNamed name (judgedAt f k) ≡ isWritten name (recordAt f k)
 named-by-bytes f name k g =
-    let w = name-is-written f k (g .fields) (g .judged) in
-    rw (g .judged) (λ i. eqb (w i .messageType) (name .messageType) && eqb (w i .number) (name .number))
+    let w = name-is-written f k (g .retired) (g .fields) (g .judged) in
+    let m = mark-is-written f k (g .retired) (g .fields) (g .judged) in
+    rw (g .judged) (λ i. not (m i) && (eqb (w i .messageType) (name .messageType) && eqb (w i .number) (name .number)))
 
 -- ---- as the code reads it
 
-module _ (name : NameFields) (r : List ℕ) (t : ℕ) (e : t ≡ twoBytes (byteAt r (headSize + typePlace)) (byteAt r (headSize + typePlace + 1))) where
+pub marked-retired : (name : NameFields) (r : List ℕ) → isRetired r ≡ true → false ≡ isWritten name r
+marked-retired name r m = rw m
+
+module _ (name : NameFields) (r : List ℕ) (live : isRetired r ≡ false) (t : ℕ) (e : t ≡ twoBytes (byteAt r (headSize + typePlace)) (byteAt r (headSize + typePlace + 1))) where
   type-read : twoAt r (headSize + typePlace) ≡ t
   type-read = twoAt-is r (headSize + typePlace) ∙ sym e
 
   pub other-type : (t ≡ name .messageType → ⊥) → false ≡ isWritten name r
-  other-type ne = rw (type-read, ne-eqb t (name .messageType) ne)
+  other-type ne = rw (live, type-read, ne-eqb t (name .messageType) ne)
 
   pub same-type : t ≡ name .messageType → (n : ℕ)
       → n ≡ fourBytes (byteAt r (headSize + numberPlace)) (byteAt r (headSize + numberPlace + 1)) (byteAt r (headSize + numberPlace + 2)) (byteAt r (headSize + numberPlace + 3))
       → eqb n (name .number) ≡ isWritten name r
   same-type q n m =
-      rw (type-read, eq-eqb t (name .messageType) q) (ap (λ (x : ℕ). eqb x (name .number)) (m ∙ sym (fourAt-is r (headSize + numberPlace))))
+      rw (live, type-read, eq-eqb t (name .messageType) q) (ap (λ (x : ℕ). eqb x (name .number)) (m ∙ sym (fourAt-is r (headSize + numberPlace))))
 
 -- the part of 512 bytes that is lent is the record
 pub written-at : (f : List ℕ) (n : ℕ) (name : NameFields) (b : Bool) → b ≡ isWritten name (take ((n * recordSize + recordSize) - n * recordSize) (drop (n * recordSize) f))

@@ -19,6 +19,7 @@ use Rattle.golden.specs.Finding as find
 use Rattle.golden.specs.Listing as list
 use Rattle.golden.specs.Making as make
 use Rattle.golden.specs.Refusal.{toldGoldenRefusal, NumbersGoldenRefusal}
+use Rattle.golden.specs.Retiring as retire
 use Rattle.golden.specs.Stepping as step
 use Rattle.golden.specs.Walking.{Begins, Walks}
 use Rattle.golden.specs.declared.checker.Checking.{Checking}
@@ -35,7 +36,9 @@ use Rattle.golden.specs.declared.lister.Entry.the-variants as entry
 use Rattle.golden.specs.declared.maker.Making.{Making}
 use Rattle.golden.specs.declared.maker.Making.the-variants as making
 use Rattle.golden.specs.declared.refusal.Refusal.{Refusal}
-use Rattle.golden.specs.declared.refusal.Refusal.the-variants.{NotAGoldenFile, NoRecord, BadLength, NotClear, RecordRefused, NameTaken, NotFound, RadioRefused, TooLong, MessageRefused, WrongBuffer}
+use Rattle.golden.specs.declared.refusal.Refusal.the-variants.{NotAGoldenFile, NoRecord, BadLength, NotClear, RecordRefused, NameTaken, NotFound, RadioRefused, TooLong, MessageRefused, WrongBuffer, AlreadyRetired, WrongCopy, RecordRetired}
+use Rattle.golden.specs.declared.retirer.Retiring.{Retiring}
+use Rattle.golden.specs.declared.retirer.Retiring.the-variants as retiring
 use Rattle.golden.specs.declared.stepper.Reached.{Reached}
 use Rattle.golden.specs.declared.stepper.Reached.the-variants as reached
 use Rattle.golden.specs.declared.walker.Walk.{Walk}
@@ -50,7 +53,10 @@ plainOf n =
     (cond (eqb n 24) NotClear
     (cond (eqb n 26) NameTaken
     (cond (eqb n 27) NotFound
-    (cond (eqb n 33) TooLong WrongBuffer))))))
+    (cond (eqb n 33) TooLong
+    (cond (eqb n 35) WrongBuffer
+    (cond (eqb n 36) AlreadyRetired
+    (cond (eqb n 37) WrongCopy RecordRetired)))))))))
 
 abbrev passedOf : ℕ → envelope.Refusal → Refusal
 passedOf n r = cond (eqb n 25) (RecordRefused r) (cond (eqb n 31) (RadioRefused r) (MessageRefused r))
@@ -71,6 +77,9 @@ untold-golden-refusal (RadioRefused r) = ap RadioRefused (untold-refusal r)
 untold-golden-refusal TooLong = refl
 untold-golden-refusal (MessageRefused r) = ap MessageRefused (untold-refusal r)
 untold-golden-refusal WrongBuffer = refl
+untold-golden-refusal AlreadyRetired = refl
+untold-golden-refusal WrongCopy = refl
+untold-golden-refusal RecordRetired = refl
 
 pub only-numbers-golden-refusal : (r : Refusal) → Only₁ (NumbersGoldenRefusal r)
 only-numbers-golden-refusal r = only-numbers (toldGoldenRefusal r)
@@ -104,12 +113,12 @@ only-finds f name = only-by-telling find.toldFinding untoldFinding untold-findin
 -- ---- step
 
 abbrev untoldReached : step.StepAnswer → Reached
-untoldReached (step.message p) = reached.Message (record { place = p .place; size = p .size })
+untoldReached (step.message retired p) = reached.Message (record { place = p .place; size = p .size }) retired
 untoldReached (step.refused r) = reached.Refused (untoldGoldenRefusal r)
 untoldReached step.end = reached.End
 
 untold-reached : (a : Reached) → untoldReached (step.toldReached a) ≡ a
-untold-reached (reached.Message p) = refl
+untold-reached (reached.Message p retired) = refl
 untold-reached (reached.Refused r) = ap reached.Refused (untold-golden-refusal r)
 untold-reached reached.End = refl
 
@@ -137,12 +146,15 @@ untold-counting (counting.Refused r) = ap counting.Refused (untold-golden-refusa
 pub only-counts : (f : List ℕ) → Only₁ (list.Counts f)
 only-counts f = only-by-telling list.toldCounting untoldCounting untold-counting (list.counting f)
 
+pub only-counts-retired : (f : List ℕ) → Only₁ (list.CountsRetired f)
+only-counts-retired f = only-by-telling list.toldCounting untoldCounting untold-counting (list.countingRetired f)
+
 abbrev untoldEntry : list.EntryAnswer → Entry
-untoldEntry (list.line t n size) = entry.Good t n size
+untoldEntry (list.line t n size retired) = entry.Good t n size retired
 untoldEntry (list.refused r) = entry.Refused (untoldGoldenRefusal r)
 
 untold-entry : (a : Entry) → untoldEntry (list.toldEntry a) ≡ a
-untold-entry (entry.Good t n size) = refl
+untold-entry (entry.Good t n size retired) = refl
 untold-entry (entry.Refused r) = ap entry.Refused (untold-golden-refusal r)
 
 pub only-enters : (f : List ℕ) (n : ℕ) → Only₁ (list.Enters f n)
@@ -177,6 +189,20 @@ untold-making (making.Refused r) = ap making.Refused (untold-golden-refusal r)
 pub only-makes : (m entry : List ℕ) → Only₂ (make.Makes m entry)
 only-makes m entry a b x y p q =
     (only-by-telling make.toldMaking untoldMaking untold-making (make.making m (length entry)) a b (p .0) (q .0), p .1 ∙ sym (q .1))
+
+-- ---- retire: the answer and the whole buffer
+
+abbrev untoldRetiring : retire.RetireAnswer → Retiring
+untoldRetiring retire.done = retiring.Done
+untoldRetiring (retire.refused r) = retiring.Refused (untoldGoldenRefusal r)
+
+untold-retiring : (a : Retiring) → untoldRetiring (retire.toldRetiring a) ≡ a
+untold-retiring retiring.Done = refl
+untold-retiring (retiring.Refused r) = ap retiring.Refused (untold-golden-refusal r)
+
+pub only-retires : (f : List ℕ) (n : ℕ) (entry : List ℕ) → Only₂ (retire.Retires f n entry)
+only-retires f n entry a b x y p q =
+    (only-by-telling retire.toldRetiring untoldRetiring untold-retiring (retire.retiring f n (length entry)) a b (p .0) (q .0), p .1 ∙ sym (q .1))
 
 -- ---- the walk: the answer and the whole walk afterwards
 

@@ -12,7 +12,7 @@ use Rattle.envelope.specs.Reading.{reading}
 use Rattle.envelope.specs.Refusals.{plainly}
 use Rattle.golden.specs.File.{recordAt}
 use Rattle.golden.specs.Helpers.{Opened, bad, openedAs, opening}
-use Rattle.golden.specs.Record.{recordSize, headSize, storedLength, allZero, badLength, byReading, judging}
+use Rattle.golden.specs.Record.{recordSize, headSize, isRetired, storedLength, allZero, badLength, byReading, judging}
 use Rattle.golden.proofs.RecordLaws.{part-to-end}
 
 module _ (r : List ℕ) (l : ℕ) (e : l ≡ storedLength r) where
@@ -28,11 +28,12 @@ module _ (r : List ℕ) (l : ℕ) (e : l ≡ storedLength r) where
     unfolding opening judging
     opened-24 n = rw (← e, h, ← zeros, not-true b n)
 
-    pub opened-by : not b ≡ false → (a : Answer) → a ≡ reading (take ((headSize + l) - headSize) (drop headSize r)) → openedAs l (byReading a) ≡ opening r
+    pub opened-by : not b ≡ false → (mark : Bool) → mark ≡ isRetired r → (a : Answer) → a ≡ reading (take ((headSize + l) - headSize) (drop headSize r))
+        → openedAs l (byReading mark a) ≡ opening r
     unfolding opening judging
-    opened-by n a q =
-        rw (← e, h, ← zeros, not-false b n)
-        (ap (λ (x : Answer). openedAs l (byReading x)) (q ∙ ap (λ (k : ℕ). reading (take k (drop headSize r))) (add-sub-cancel-left headSize l)))
+    opened-by n mark m a q =
+        rw (← e, h, ← zeros, not-false b n, ← m)
+        (ap (λ (x : Answer). openedAs l (byReading mark x)) (q ∙ ap (λ (k : ℕ). reading (take k (drop headSize r))) (add-sub-cancel-left headSize l)))
 
 -- the part of 512 bytes that is lent is the record
 pub opened-at : (f : List ℕ) (n : ℕ) (x : Opened) → x ≡ opening (take ((n * recordSize + recordSize) - n * recordSize) (drop (n * recordSize) f))

@@ -1,20 +1,27 @@
--- Names and pairs: two good records of one name pair up, and the search below a number.
+-- Names and pairs: two live records of one name pair up, and the search below a number.
 -- Inductions on the number.
-use mathlib.Core.Bool.{Bool, true, false}
+use mathlib.Core.Bool.{Bool, true, false, not}
 use mathlib.Core.Path.{_≡_, refl, ap, sym, _∙_}
 use Prim.Native.Nat.{ℕ, zero, suc, _+_, _≤_, _<_}
 use native.Mathlib.Decide.{decLt}
 use native.Mathlib.Numerals.{add-one}
 use native.Mathlib.Omega.{arith}
-use Rattle.envelope.proofs.BoolLaws.{neither, true-is-not-false}
+use Rattle.envelope.proofs.BoolLaws.{neither, and-false, true-is-not-false}
+use Rattle.envelope.specs.Fields.{Fields}
 use Rattle.golden.specs.Finding.{NameFields}
 use Rattle.golden.specs.Pairing.{isNamed, pairs, anyBelow}
 use Rattle.golden.specs.Record.{Judged, good, bad}
 use Rattle.golden.proofs.NameLaws.{named-so}
 
 pub named-pair : (name : NameFields) (j k : Judged) → isNamed name j ≡ true → isNamed name k ≡ true → pairs j k ≡ true
-named-pair name (good fields) k e h = ap (λ (x : NameFields). isNamed x k) (named-so name fields e) ∙ h
+named-pair name (good true fields) k e h = e
+named-pair name (good false fields) k e h = ap (λ (x : NameFields). isNamed x k) (named-so name fields e) ∙ h
 named-pair name (bad r) k e h = e
+
+-- a retired record pairs with none
+pub pairs-with-retired : (j : Judged) (fields : Fields) → pairs j (good true fields) ≡ false
+pairs-with-retired (good retired x) fields = and-false (not retired)
+pairs-with-retired (bad r) fields = refl
 
 -- ---- one below a number
 

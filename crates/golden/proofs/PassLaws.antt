@@ -21,7 +21,7 @@ use Rattle.golden.specs.Listing.{EntryAnswer, entryOf, entryAt}
 use Rattle.golden.specs.Listing as listing
 use Rattle.golden.specs.Making.{MakeAnswer, making, makingRead}
 use Rattle.golden.specs.Making as make
-use Rattle.golden.specs.Record.{recordSize, messageRoom, storedLength, messageOf, badLength, notClear, Judged, good, bad, byReading, judging}
+use Rattle.golden.specs.Record.{recordSize, messageRoom, isRetired, storedLength, messageOf, badLength, notClear, Judged, good, bad, byReading, judging}
 use Rattle.golden.specs.Stepping.{StepAnswer, stepOf, stepAt}
 use Rattle.golden.specs.Stepping as step
 use Rattle.golden.specs.Theorems.{FirstRefused, not-a-file, bad-record, repeated, FindReason, no-file, first-bad, first-named, none-named, CheckPassesOn, FindPassesOn, StepPassesOn, EntryPassesOn, ComparePassesOn, MakePassesOn}
@@ -33,24 +33,24 @@ use Rattle.golden.proofs.SteppingLaws.{Reason, at-21, at-end, at-record
 -- ---- a record
 
 abbrev JudgedOn : List ℕ → Judged → Type 0
-JudgedOn m (good f) = Unit
+JudgedOn m (good retired f) = Unit
 JudgedOn m (bad x) = On m x
 
-by-reading : (m : List ℕ) (x : Answer) → reading m ≡ x → JudgedOn m (byReading x)
-by-reading m (accepted f) e = tt
-by-reading m (envelope.refused q) e = on-passing m 25 q e
+by-reading : (m : List ℕ) (mark : Bool) (x : Answer) → reading m ≡ x → JudgedOn m (byReading mark x)
+by-reading m mark (accepted f) e = tt
+by-reading m mark (envelope.refused q) e = on-passing m 25 q e
 
 judged-on : (f : List ℕ) (n : ℕ) → JudgedOn (messageOf (recordAt f n)) (judgedAt f n)
 unfolding judgedAt judging
 judged-on f n = go (badLength (storedLength (recordAt f n))) (notClear (recordAt f n))
   where
     go : (a b : Bool)
-        → JudgedOn (messageOf (recordAt f n)) (cond a (bad (plainly 23)) (cond b (bad (plainly 24)) (byReading (reading (messageOf (recordAt f n))))))
+        → JudgedOn (messageOf (recordAt f n)) (cond a (bad (plainly 23)) (cond b (bad (plainly 24)) (byReading (isRetired (recordAt f n)) (reading (messageOf (recordAt f n))))))
     go true b = on-plainly (messageOf (recordAt f n)) 23
     go false true = on-plainly (messageOf (recordAt f n)) 24
-    go false false = by-reading (messageOf (recordAt f n)) (reading (messageOf (recordAt f n))) refl
+    go false false = by-reading (messageOf (recordAt f n)) (isRetired (recordAt f n)) (reading (messageOf (recordAt f n))) refl
 
-bad-on : (f : List ℕ) (n : ℕ) (x : Refused) → judgedAt f n ≡ bad x → On (messageOf (recordAt f n)) x
+pub bad-on : (f : List ℕ) (n : ℕ) (x : Refused) → judgedAt f n ≡ bad x → On (messageOf (recordAt f n)) x
 bad-on f n x e = subst (JudgedOn (messageOf (recordAt f n))) e (judged-on f n)
 
 -- ---- the file
@@ -78,7 +78,7 @@ find-passes-on f name n number r e =
     subst (FoundOn f) e (found-on f name (finding f name) (find-gives-its-reason f name)) n refl number r refl
 
 abbrev StepOn : List ℕ → StepAnswer → Type 0
-StepOn m (step.message part) = Unit
+StepOn m (step.message retired part) = Unit
 StepOn m (step.refused x) = On m x
 StepOn m step.end = Unit
 
@@ -86,7 +86,7 @@ step-on : (f : List ℕ) (n : ℕ) → StepOn (messageOf (recordAt f n)) (stepAt
 step-on f n = by (stepAt f n) (reason f n)
   where
     of : (j : Judged) → judgedAt f n ≡ j → StepOn (messageOf (recordAt f n)) (stepOf f n j)
-    of (good x) q = tt
+    of (good retired x) q = tt
     of (bad x) q = bad-on f n x q
 
     by : (a : StepAnswer) → Reason f n a → StepOn (messageOf (recordAt f n)) a
@@ -98,7 +98,7 @@ pub step-passes-on : StepPassesOn
 step-passes-on f n number r e = subst (StepOn (messageOf (recordAt f n))) e (step-on f n) number r refl
 
 abbrev EntryOn : List ℕ → EntryAnswer → Type 0
-EntryOn m (listing.line messageType number size) = Unit
+EntryOn m (listing.line messageType number size retired) = Unit
 EntryOn m (listing.refused x) = On m x
 
 entry-on : (f : List ℕ) (n : ℕ) → EntryOn (messageOf (recordAt f n)) (entryAt f n)
@@ -109,7 +109,7 @@ entry-on f n = go (badFile f) (notThere f n) (judgedAt f n) (judged-on f n)
         → EntryOn (messageOf (recordAt f n)) (cond a (listing.refused (plainly 21)) (cond b (listing.refused (plainly 22)) (entryOf f n j)))
     go true b j h = on-plainly (messageOf (recordAt f n)) 21
     go false true j h = on-plainly (messageOf (recordAt f n)) 22
-    go false false (good x) h = tt
+    go false false (good retired x) h = tt
     go false false (bad x) h = h
 
 pub entry-passes-on : EntryPassesOn
@@ -156,7 +156,8 @@ compared-on f n radio = go (badFile f) (notThere f n) (judgedAt f n) refl
     go true b j e = neither-on m radio 21
     go false true j e = neither-on m radio 22
     go false false (bad x) e = record-on f n radio x e
-    go false false (good x) e = radio-on m m radio (reading radio) refl
+    go false false (good true x) e = neither-on m radio 38
+    go false false (good false x) e = radio-on m m radio (reading radio) refl
 
 pub compare-passes-on : ComparePassesOn
 compare-passes-on f n radio r = (

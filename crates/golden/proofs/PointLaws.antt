@@ -20,11 +20,11 @@ use Rattle.golden.specs.Checking as check
 use Rattle.golden.specs.Comparing.{differing, same, different, refused, withRadio, withRecord, comparing, answerToComparing}
 use Rattle.golden.specs.File.{badFile, countOf, notThere, recordAt, judgedAt}
 use Rattle.golden.specs.Finding.{FindAnswer, finding}
-use Rattle.golden.specs.Listing.{counting, entryOf, entryAt}
+use Rattle.golden.specs.Listing.{counting, retiredBelow, countingRetired, entryOf, entryAt}
 use Rattle.golden.specs.Listing as listing
 use Rattle.golden.specs.Making.{making, makingRead}
 use Rattle.golden.specs.Making as make
-use Rattle.golden.specs.Record.{headSize, recordSize, messageRoom, storedLength, messageOf, badLength, notClear, Judged, good, bad, byReading, judging}
+use Rattle.golden.specs.Record.{headSize, recordSize, messageRoom, isRetired, storedLength, messageOf, badLength, notClear, Judged, good, bad, byReading, judging}
 use Rattle.golden.specs.Stepping.{StepAnswer, stepOf, stepAt}
 use Rattle.golden.specs.Theorems.{FirstRefused, not-a-file, bad-record, repeated, FindReason, no-file, first-bad, first-named, none-named, countPlace, CountPointsNowhere, checkPlace, CheckPointsShort, findPlace, FindPointsShort, stepPlace, StepPointsShort, entryPlace, EntryPointsShort, comparePlace, ComparePointsWithin, makePlace, MakePointsShort}
 use Rattle.golden.proofs.CheckedLaws.{check-names-the-first}
@@ -35,17 +35,17 @@ use Rattle.golden.proofs.SteppingLaws.{Reason, at-21, at-end, at-record
 -- ---- a record
 
 judgedPlace : Judged → ℕ
-judgedPlace (good f) = 0
+judgedPlace (good retired f) = 0
 judgedPlace (bad r) = placeIn r
 
 -- a message that the stored length cuts out is no longer than it
 message-short : (r : List ℕ) → storedLength r ≤ messageRoom → length (messageOf r) ≤ messageRoom
 message-short r h = omega (arith, length-take (storedLength r) (drop headSize r))
 
-by-reading : (r : List ℕ) (x : Answer) → storedLength r ≤ messageRoom → reading (messageOf r) ≡ x → judgedPlace (byReading x) ≤ messageRoom
+by-reading : (r : List ℕ) (mark : Bool) (x : Answer) → storedLength r ≤ messageRoom → reading (messageOf r) ≡ x → judgedPlace (byReading mark x) ≤ messageRoom
 unfolding judgedPlace
-by-reading r (accepted f) h e = omega arith
-by-reading r (envelope.refused q) h e = omega (arith, place-most (messageOf r) q e, message-short r h)
+by-reading r mark (accepted f) h e = omega arith
+by-reading r mark (envelope.refused q) h e = omega (arith, place-most (messageOf r) q e, message-short r h)
 
 judged-points : (f : List ℕ) (n : ℕ) → judgedPlace (judgedAt f n) ≤ messageRoom
 unfolding judgedAt judging judgedPlace
@@ -55,24 +55,24 @@ judged-points f n = go (badLength (storedLength r)) refl (notClear r)
     r = recordAt f n
 
     go : (a : Bool) → badLength (storedLength r) ≡ a → (b : Bool)
-        → judgedPlace (cond a (bad (plainly 23)) (cond b (bad (plainly 24)) (byReading (reading (messageOf r))))) ≤ messageRoom
+        → judgedPlace (cond a (bad (plainly 23)) (cond b (bad (plainly 24)) (byReading (isRetired r) (reading (messageOf r))))) ≤ messageRoom
     go true e b = omega arith
     go false e true = omega arith
-    go false e false = by-reading r (reading (messageOf r)) (length-most (storedLength r) e) refl
+    go false e false = by-reading r (isRetired r) (reading (messageOf r)) (length-most (storedLength r) e) refl
 
-bad-points : (f : List ℕ) (n : ℕ) (r : Refused) → judgedAt f n ≡ bad r → placeIn r ≤ messageRoom
+pub bad-points : (f : List ℕ) (n : ℕ) (r : Refused) → judgedAt f n ≡ bad r → placeIn r ≤ messageRoom
 unfolding judgedPlace
 bad-points f n r e = rw e at (judged-points f n)
 
 -- ---- the file
 
 pub count-points-nowhere : CountPointsNowhere
-unfolding counting
-count-points-nowhere f = go (badFile f)
+unfolding counting countingRetired
+count-points-nowhere f = (go (badFile f) (countOf f), go (badFile f) (retiredBelow f (countOf f)))
   where
-    go : (b : Bool) → countPlace (cond b (listing.refused (plainly 21)) (listing.counted (countOf f))) ≡ 0
-    go true = refl
-    go false = refl
+    go : (b : Bool) (n : ℕ) → countPlace (cond b (listing.refused (plainly 21)) (listing.counted n)) ≡ 0
+    go true n = refl
+    go false n = refl
 
 pub check-points-short : CheckPointsShort
 check-points-short f = by (checking f) refl
@@ -99,7 +99,7 @@ pub step-points-short : StepPointsShort
 step-points-short f n = by (stepAt f n) (reason f n)
   where
     of : (j : Judged) → judgedAt f n ≡ j → stepPlace (stepOf f n j) ≤ messageRoom
-    of (good x) q = omega arith
+    of (good retired x) q = omega arith
     of (bad r) q = bad-points f n r q
 
     by : (a : StepAnswer) → Reason f n a → stepPlace a ≤ messageRoom
@@ -115,7 +115,7 @@ entry-points-short f n = go (badFile f) (notThere f n) (judgedAt f n) refl
         → entryPlace (cond a (listing.refused (plainly 21)) (cond b (listing.refused (plainly 22)) (entryOf f n j))) ≤ messageRoom
     go true b j e = omega arith
     go false true j e = omega arith
-    go false false (good x) e = omega arith
+    go false false (good retired x) e = omega arith
     go false false (bad r) e = bad-points f n r e
 
 -- ---- the radio's message, and one for a record
@@ -139,7 +139,8 @@ compare-points-within f n radio bytes = go (badFile f) (notThere f n) (judgedAt 
     go true b j e = omega arith
     go false true j e = omega arith
     go false false (bad r) e = omega (arith, bad-points f n r e)
-    go false false (good x) e = radio-points (messageOf (recordAt f n)) radio bytes (reading radio) refl
+    go false false (good true x) e = omega arith
+    go false false (good false x) e = radio-points (messageOf (recordAt f n)) radio bytes (reading radio) refl
 
 pub make-points-short : MakePointsShort
 unfolding making

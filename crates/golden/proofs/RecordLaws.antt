@@ -1,6 +1,6 @@
 -- Laws of a record: a scan for bytes that are not zero, and what a judgement says of the record's parts.
--- `Good` has everything that a good record keeps.
-use mathlib.Core.Bool.{true, false, not}
+-- `Good` has everything that a good record keeps, be it live or retired.
+use mathlib.Core.Bool.{Bool, true, false, not}
 use mathlib.Core.List.{List, [], _∷_}
 use mathlib.Core.Path.{_≡_, refl, ap, sym, _∙_}
 use Prim.Native.Nat.{ℕ, zero, suc, _+_, _-_, _*_, _≤_, _<_}
@@ -16,7 +16,7 @@ use Rattle.envelope.specs.Layout.{leastSize}
 use Rattle.envelope.specs.Reading.{reading}
 use Rattle.envelope.specs.Refusals.{Refused}
 use Rattle.golden.specs.File.{countOf, recordAt}
-use Rattle.golden.specs.Record.{recordSize, headSize, messageRoom, storedLength, messageOf, allZero, badLength, notClear, good, bad, byReading, judging}
+use Rattle.golden.specs.Record.{recordSize, headSize, messageRoom, isRetired, storedLength, messageOf, allZero, badLength, notClear, good, bad, byReading, judging}
 
 -- ---- a scan for zeros, one byte on
 
@@ -64,11 +64,12 @@ length-kept l h k = rw (le-ltb l leastSize h, le-ltb messageRoom l k)
 
 -- ---- a good record
 
-pub record Good (r : List ℕ) (f : Fields) : Type 0 where
+pub record Good (r : List ℕ) (retired : Bool) (f : Fields) : Type 0 where
   pub least : leastSize ≤ storedLength r
   pub most : storedLength r ≤ messageRoom
   pub clear : (i : ℕ) → headSize + storedLength r ≤ i → getD r i 0 ≡ 0
   pub accepts : reading (messageOf r) ≡ accepted f
+  pub mark : retired ≡ isRetired r
 
 -- every byte after the message is zero, and back
 pub clear-behind : (r : List ℕ) → notClear r ≡ false → (i : ℕ) → headSize + storedLength r ≤ i → getD r i 0 ≡ 0
@@ -82,28 +83,30 @@ behind-clear r h =
     let n = headSize + storedLength r in
     ap not (each-zero (drop n r) (λ i. getD-drop n r i 0 ∙ h (n + i) (omega arith)))
 
-pub bad-is-not-good : {x : Refused} {f : Fields} → bad x ≡ good f → ⊥
+pub bad-is-not-good : {x : Refused} {retired : Bool} {f : Fields} → bad x ≡ good retired f → ⊥
 bad-is-not-good e = let z : _≡_ {A = ℕ} 0 1 = cc in omega arith
 
-by-reading : (a : Answer) (f : Fields) → byReading a ≡ good f → a ≡ accepted f
-by-reading (accepted g) f e = cc
-by-reading (refused r) f e = cc
+by-reading : (mark : Bool) (a : Answer) (retired : Bool) (f : Fields) → byReading mark a ≡ good retired f → (a ≡ accepted f) × (retired ≡ mark)
+by-reading mark (accepted g) retired f e = (cc, cc)
+by-reading mark (refused r) retired f e = (cc, cc)
 
-pub good-record : (r : List ℕ) (f : Fields) → judging r ≡ good f → Good r f
+pub good-record : (r : List ℕ) (retired : Bool) (f : Fields) → judging r ≡ good retired f → Good r retired f
 unfolding judging
-good-record r f e =
+good-record r retired f e =
     let p = past (badLength (storedLength r)) bad-is-not-good e in
     let q = past (notClear r) bad-is-not-good (p .1) in
+    let a = by-reading (isRetired r) (reading (messageOf r)) retired f (q .1) in
     record {
       least = length-least (storedLength r) (p .0);
       most = length-most (storedLength r) (p .0);
       clear = clear-behind r (q .0);
-      accepts = by-reading (reading (messageOf r)) f (q .1);
+      accepts = a .0;
+      mark = a .1;
     }
 
-pub record-good : (r : List ℕ) (f : Fields) → Good r f → judging r ≡ good f
+pub record-good : (r : List ℕ) (retired : Bool) (f : Fields) → Good r retired f → judging r ≡ good retired f
 unfolding judging
-record-good r f g = rw (length-kept (storedLength r) (g .least) (g .most), behind-clear r (g .clear), g .accepts)
+record-good r retired f g = rw (length-kept (storedLength r) (g .least) (g .most), behind-clear r (g .clear), g .accepts, g .mark)
 
 -- ---- how long they are
 

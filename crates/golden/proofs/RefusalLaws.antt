@@ -8,9 +8,9 @@ use Rattle.envelope.specs.Refusals.{plainly, passingOn, numbersOf}
 use Rattle.golden.specs.Helpers.{rowOf, rowNumber}
 use Rattle.golden.specs.Refusal.{toldGoldenRefusal}
 use Rattle.golden.specs.declared.refusal.Refusal.{Refusal}
-use Rattle.golden.specs.declared.refusal.Refusal.the-variants.{NotAGoldenFile, NoRecord, BadLength, NotClear, RecordRefused, NameTaken, NotFound, RadioRefused, TooLong, MessageRefused, WrongBuffer}
+use Rattle.golden.specs.declared.refusal.Refusal.the-variants.{NotAGoldenFile, NoRecord, BadLength, NotClear, RecordRefused, NameTaken, NotFound, RadioRefused, TooLong, MessageRefused, WrongBuffer, AlreadyRetired, WrongCopy, RecordRetired}
 
-pub row-few : (r : Refusal) → rowOf r < 11
+pub row-few : (r : Refusal) → rowOf r < 14
 row-few NotAGoldenFile = omega arith
 row-few NoRecord = omega arith
 row-few BadLength = omega arith
@@ -22,6 +22,9 @@ row-few (RadioRefused r) = omega arith
 row-few TooLong = omega arith
 row-few (MessageRefused r) = omega arith
 row-few WrongBuffer = omega arith
+row-few AlreadyRetired = omega arith
+row-few WrongCopy = omega arith
+row-few RecordRetired = omega arith
 
 module _ (r x : Refusal) (row number : ℕ) (e : r ≡ x) (f : row ≡ rowOf r) (g : number ≡ rowNumber row) where
   pub told-plainly : numbersOf (plainly (rowNumber (rowOf x))) ≡ numbersOf (toldGoldenRefusal x) → numbersOf (plainly number) ≡ numbersOf (toldGoldenRefusal r)

@@ -1,6 +1,6 @@
 -- What `same` says: the messages have the same bytes.
 -- No place that is selected: none differs, so the lengths and the bytes are the same.
-use mathlib.Core.Bool.{false, not, _||_}
+use mathlib.Core.Bool.{true, false, not, _||_}
 use mathlib.Core.List.{List, [], _∷_}
 use mathlib.Core.Path.{_≡_, refl}
 use Prim.Native.Nat.{ℕ, _<_}
@@ -66,7 +66,8 @@ of-radio g r (accepted f) e = of-messages g r e
 
 of-record : (g r : List ℕ) (j : Judged) → withRecord g r j ≡ positions [] → g ≡ r
 of-record g r (bad x) e = absurd (refused-has-none e)
-of-record g r (good f) e = of-radio g r (reading r) e
+of-record g r (good true f) e = absurd (refused-has-none e)
+of-record g r (good false f) e = of-radio g r (reading r) e
 
 pub same-is-equal : SameIsEqual
 unfolding comparing

@@ -56,25 +56,25 @@ reason f n = go (badFile f) refl (notThere f n) refl
 
 pub step-reaches-the-stored : StepReachesTheStored
 unfolding stepAt storedMessage
-step-reaches-the-stored f n p e = go (badFile f) (notThere f n) (judgedAt f n) e
+step-reaches-the-stored f n retired p e = go (badFile f) (notThere f n) (judgedAt f n) e
   where
-    go : (a b : Bool) (j : Judged) → cond a (refused (plainly 21)) (cond b end (stepOf f n j)) ≡ message p
+    go : (a b : Bool) (j : Judged) → cond a (refused (plainly 21)) (cond b end (stepOf f n j)) ≡ message retired p
         → cond a nowhere (cond b nowhere (messagePart f n)) ≡ p
     go true b j e = absurd (let z : _≡_ {A = ℕ} 0 1 = cc in omega arith)
     go false true j e = absurd (let z : _≡_ {A = ℕ} 0 1 = cc in omega arith)
     go false false (bad r) e = absurd (let z : _≡_ {A = ℕ} 0 1 = cc in omega arith)
-    go false false (good x) e = cc
+    go false false (good mark x) e = cc
 
 -- ---- the message of a good record
 
-pub good-size : (f : List ℕ) (n : ℕ) (fields : Fields) → judgedAt f n ≡ good fields → storedLength (recordAt f n) ≤ messageRoom
-good-size f n fields e = good-at f n fields e .most
+pub good-size : (f : List ℕ) (n : ℕ) (retired : Bool) (fields : Fields) → judgedAt f n ≡ good retired fields → storedLength (recordAt f n) ≤ messageRoom
+good-size f n retired fields e = good-at f n retired fields e .most
 
 -- the part that a step hands out holds the record's message
-pub part-is-message : (f : List ℕ) (n : ℕ) (fields : Fields) → judgedAt f n ≡ good fields
+pub part-is-message : (f : List ℕ) (n : ℕ) (retired : Bool) (fields : Fields) → judgedAt f n ≡ good retired fields
     → partOf f (messagePart f n) ≡ messageOf (recordAt f n)
-part-is-message f n fields e =
+part-is-message f n retired fields e =
     let size = storedLength (recordAt f n) in
-    let k = good-size f n fields e in
+    let k = good-size f n retired fields e in
     ap (take size) (sym (drop-drop headSize (n * recordSize) f))
     ∙ sym (part-of-front size headSize recordSize (drop (n * recordSize) f) (omega arith))

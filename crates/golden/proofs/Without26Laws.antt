@@ -14,8 +14,8 @@ use Rattle.golden.specs.Without26.{checkFromWithout26, checkingWithout26
 one-record : (n : ℕ) (repeated : Bool) (j : Judged) (before others : CheckAnswer) → AsBeforeOr26 before others
     → AsBeforeOr26 (unlessBad n false j before) (unlessBad n repeated j others)
 one-record n repeated (bad r) before others rest = as-before
-one-record n true (good fields) before others rest = named-twice n
-one-record n false (good fields) before others rest = rest
+one-record n true (good retired fields) before others rest = named-twice n
+one-record n false (good retired fields) before others rest = rest
 
 from-record : (f : List ℕ) (left n : ℕ) → AsBeforeOr26 (checkFromWithout26 f n left) (checkFrom f n left)
 unfolding checkFrom checkFromWithout26

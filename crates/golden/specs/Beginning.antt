@@ -1,5 +1,5 @@
 -- Why there is no refusal 32: of two accepted messages neither is a proper beginning of the other, since each states its length in its first 17 bytes. RULES 5.
--- Compare as it was defined with that refusal is kept here beside these statements, and is no part of any promise. Proved in proofs/BeginningLaws.
+-- Compare with that refusal in it is kept here beside these statements, and is no part of any promise. Proved in proofs/BeginningLaws.
 use Prim.Native.Nat.{ℕ}
 use mathlib.Core.Bool.{Bool, true, false, cond, _&&_, _||_}
 use mathlib.Core.List.{List, [], _∷_}
@@ -39,7 +39,7 @@ withRadioAnd32 g r (accepted fields) = messagesAnd32 g r
 
 abbrev pub withRecordAnd32 : List ℕ → List ℕ → Judged → CompareOutcome
 withRecordAnd32 g r (bad x) = refused x
-withRecordAnd32 g r (good fields) = withRadioAnd32 g r (reading r)
+withRecordAnd32 g r (good retired fields) = cond retired (refused (plainly 38)) (withRadioAnd32 g r (reading r))
 
 unfoldable pub comparingWith32 : List ℕ → ℕ → List ℕ → CompareOutcome
 comparingWith32 f n radio =

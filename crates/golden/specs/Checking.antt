@@ -1,5 +1,6 @@
 -- Check: the count, or the first bad record's number and refusal; record 0 for 21. RULES 5.
--- The later of two records of one name is refused as 26 (K4): of one record 25 is told before 26, and no later record is judged first.
+-- The later of two live records of one name is refused as 26 (K4): of one record 25 is told before 26, and no later record is judged first.
+-- Retired records are judged and counted, and bear no name here (K7).
 -- `f` is the list of the file's bytes, and `n` the number of a record.
 use Prim.Native.Nat.{ℕ, zero, suc, _+_}
 use mathlib.Core.Bool.{Bool, cond}
@@ -17,14 +18,14 @@ pub data CheckAnswer : Type 0 where
   counted : ℕ → CheckAnswer
   refused : ℕ → Refused → CheckAnswer
 
--- 26: an earlier record has the name of record n
+-- 26: an earlier live record has the name of record n, which is live
 unfoldable pub repeats : List ℕ → ℕ → Bool
 repeats f n = anyBelow (λ k. pairs (judgedAt f n) (judgedAt f k)) n
 
 -- record n decides, or the others do
 abbrev pub unlessBad : ℕ → (repeated : Bool) → Judged → CheckAnswer → CheckAnswer
 unlessBad n repeated (bad r) others = refused n r
-unlessBad n repeated (good f) others = cond repeated (refused n (plainly 26)) others
+unlessBad n repeated (good retired f) others = cond repeated (refused n (plainly 26)) others
 
 -- the records from n on, of which there are so many
 unfoldable pub checkFrom : List ℕ → ℕ → ℕ → CheckAnswer

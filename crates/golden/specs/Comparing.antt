@@ -1,5 +1,5 @@
 -- Compare one record with a radio's message: same, or different with the total of differing positions. RULES 5.
--- A position below only one of the two lengths differs. No refusal writes to the list.
+-- A position below only one of the two lengths differs. A retired record is refused as 38 (K7). No refusal writes to the list.
 use Prim.Native.Nat.{ℕ}
 use mathlib.Core.Bool.{Bool, cond, not, _||_}
 use mathlib.Core.List.{List}
@@ -32,14 +32,15 @@ pub data CompareOutcome : Type 0 where
   positions : List ℕ → CompareOutcome
   refused : Refused → CompareOutcome
 
--- golden message g and radio message r: 31, once the record is good
+-- golden message g and radio message r: 31, once the record is good and live
 abbrev pub withRadio : List ℕ → List ℕ → Answer → CompareOutcome
 withRadio g r (read.refused x) = refused (passingOn 31 x)
 withRadio g r (accepted fields) = positions (differing g r)
 
+-- 38, after 25 (K7)
 abbrev pub withRecord : List ℕ → List ℕ → Judged → CompareOutcome
 withRecord g r (bad x) = refused x
-withRecord g r (good fields) = withRadio g r (reading r)
+withRecord g r (good retired fields) = cond retired (refused (plainly 38)) (withRadio g r (reading r))
 
 unfoldable pub comparing : List ℕ → ℕ → List ℕ → CompareOutcome
 comparing f n radio =

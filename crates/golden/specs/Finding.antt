@@ -1,7 +1,8 @@
--- Find: records are opened from the first until one is bad or has the type and number sought. RULES 5.
+-- Find: records are opened from the first until one is bad, or is live and has the type and number sought. RULES 5.
+-- Retired records that are good are passed over, and count as opened (K7).
 -- With each answer goes the number of records opened: the place of the deciding record plus one, all for 27, none for 21.
 use Prim.Native.Nat.{ℕ, zero, suc, _+_}
-use mathlib.Core.Bool.{Bool, cond, _&&_}
+use mathlib.Core.Bool.{Bool, cond, not, _&&_}
 use mathlib.Core.List.{List}
 use mathlib.Core.Path.{_≡_}
 use lib.Dec.{eqb}
@@ -33,7 +34,7 @@ pub data FindAnswer : Type 0 where
 -- record n decides, or the others do
 abbrev pub decides : NameFields → ℕ → Judged → FindAnswer → FindAnswer
 decides name n (bad r) others = refused r (n + 1)
-decides name n (good f) others = cond (hasName name f) (found n (n + 1)) others
+decides name n (good retired f) others = cond (not retired && hasName name f) (found n (n + 1)) others
 
 -- the records from n on, of which there are so many
 unfoldable pub findFrom : List ℕ → NameFields → ℕ → ℕ → FindAnswer

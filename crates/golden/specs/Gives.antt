@@ -9,10 +9,14 @@ use Rattle.golden.specs.Comparing as compare
 use Rattle.golden.specs.Finding as find
 use Rattle.golden.specs.Listing as list
 use Rattle.golden.specs.Making as make
+use Rattle.golden.specs.Retiring as retire
 use Rattle.golden.specs.Stepping as step
 
 abbrev pub CountGives : Type 0
 CountGives = (f : List ℕ) (r : Refused) → list.counting f ≡ list.refused r → Gives (21 ∷ []) [] r
+
+abbrev pub CountRetiredGives : Type 0
+CountRetiredGives = (f : List ℕ) (r : Refused) → list.countingRetired f ≡ list.refused r → Gives (21 ∷ []) [] r
 
 abbrev pub CheckGives : Type 0
 CheckGives = (f : List ℕ) (n : ℕ) (r : Refused) → check.checking f ≡ check.refused n r → Gives (21 ∷ 23 ∷ 24 ∷ 26 ∷ []) (25 ∷ []) r
@@ -33,7 +37,11 @@ EntryGives = (f : List ℕ) (n : ℕ) (r : Refused) → list.entryAt f n ≡ lis
 abbrev pub CompareGives : Type 0
 CompareGives =
     (f : List ℕ) (n : ℕ) (radio : List ℕ) (r : Refused) → compare.answerToComparing (compare.comparing f n radio) ≡ compare.refused r
-    → Gives (21 ∷ 22 ∷ 23 ∷ 24 ∷ []) (25 ∷ 31 ∷ []) r
+    → Gives (21 ∷ 22 ∷ 23 ∷ 24 ∷ 38 ∷ []) (25 ∷ 31 ∷ []) r
 
 abbrev pub MakeGives : Type 0
 MakeGives = (m : List ℕ) (room : ℕ) (r : Refused) → make.making m room ≡ make.refused r → Gives (33 ∷ 35 ∷ []) (34 ∷ []) r
+
+abbrev pub RetireGives : Type 0
+RetireGives =
+    (f : List ℕ) (n room : ℕ) (r : Refused) → retire.retiring f n room ≡ retire.refused r → Gives (21 ∷ 22 ∷ 23 ∷ 24 ∷ 36 ∷ 37 ∷ []) (25 ∷ []) r

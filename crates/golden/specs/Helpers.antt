@@ -1,7 +1,7 @@
 -- Meanings of the private helpers' answers. No promise to a user names them.
--- Beside `Judged` of specs/Record an opened record has its stored length with its fields.
+-- Beside `Judged` of specs/Record an opened record has its stored length with its mark and fields.
 use Prim.Native.Nat.{ℕ, _+_, _%_, _<_}
-use mathlib.Core.Bool.{Bool, true, false, cond, _&&_}
+use mathlib.Core.Bool.{Bool, true, false, cond, not, _&&_}
 use mathlib.Core.List.{List}
 use mathlib.Core.Path.{_≡_}
 use lib.Dec.{eqb, ltb}
@@ -12,9 +12,9 @@ use Rattle.envelope.specs.Numbers.{twoAt, fourAt}
 use Rattle.envelope.specs.Refusals.{Refused}
 use Rattle.envelope.specs.Told.{toldEnvelope}
 use Rattle.golden.specs.File.{recordAt}
-use Rattle.golden.specs.Finding.{NameFields, hasName}
+use Rattle.golden.specs.Finding.{NameFields, hasName, nameOf}
 use Rattle.golden.specs.Pairing.{anyBelow}
-use Rattle.golden.specs.Record.{headSize, storedLength, Judged, judging}
+use Rattle.golden.specs.Record.{headSize, isRetired, storedLength, Judged, judging}
 use Rattle.golden.specs.Record as judged
 use Rattle.golden.specs.Refusal.{toldGoldenRefusal}
 use Rattle.golden.specs.declared.finder.Seen.{Seen}
@@ -22,22 +22,27 @@ use Rattle.golden.specs.declared.finder.Seen.the-variants as seen
 use Rattle.golden.specs.declared.record.Opening.{Opening}
 use Rattle.golden.specs.declared.record.Opening.the-variants.{Good, Bad}
 use Rattle.golden.specs.declared.refusal.Refusal.{Refusal}
-use Rattle.golden.specs.declared.refusal.Refusal.the-variants.{NotAGoldenFile, NoRecord, BadLength, NotClear, RecordRefused, NameTaken, NotFound, RadioRefused, TooLong, MessageRefused, WrongBuffer}
+use Rattle.golden.specs.declared.refusal.Refusal.the-variants.{NotAGoldenFile, NoRecord, BadLength, NotClear, RecordRefused, NameTaken, NotFound, RadioRefused, TooLong, MessageRefused, WrongBuffer, AlreadyRetired, WrongCopy, RecordRetired}
 
 pub data Opened : Type 0 where
-  holding : ℕ → Fields → Opened
+  holding : ℕ → (retired : Bool) → Fields → Opened
   bad : Refused → Opened
 
 abbrev pub openedAs : ℕ → Judged → Opened
-openedAs size (judged.good f) = holding size f
+openedAs size (judged.good retired f) = holding size retired f
 openedAs size (judged.bad r) = bad r
 
 unfoldable pub opening : List ℕ → Opened
 opening r = openedAs (storedLength r) (judging r)
 
 abbrev pub toldOpening : Opening → Opened
-toldOpening (Good g) = holding (g .size) (toldEnvelope (g .envelope))
+toldOpening (Good g) = holding (g .size) (g .retired) (toldEnvelope (g .envelope))
 toldOpening (Bad r) = bad (toldGoldenRefusal r)
+
+-- what an opened record adds to the count of the retired ones
+abbrev pub openedRetired : Opened → ℕ
+openedRetired (holding size retired f) = cond retired 1 0
+openedRetired (bad r) = 0
 
 -- what an opened record is to find: bad, the one sought, or another
 pub data Sight : Type 0 where
@@ -47,24 +52,29 @@ pub data Sight : Type 0 where
 
 abbrev pub seenAs : NameFields → Opened → Sight
 seenAs name (bad r) = bad r
-seenAs name (holding size f) = cond (hasName name f) sought other
+seenAs name (holding size retired f) = cond (not retired && hasName name f) sought other
 
 abbrev pub toldSeen : Seen → Sight
 toldSeen (seen.Bad r) = bad (toldGoldenRefusal r)
 toldSeen seen.Sought = sought
 toldSeen seen.Other = other
 
--- ---- the name of a good record as it stands in the record's bytes, by which check looks back
+-- ---- the name and the mark of a good record as they stand in the record's bytes, by which check looks back
 
 abbrev pub writtenName : List ℕ → NameFields
 writtenName r = record { messageType = twoAt r (headSize + typePlace); number = fourAt r (headSize + numberPlace) }
 
 abbrev pub isWritten : NameFields → List ℕ → Bool
-isWritten name r = eqb (writtenName r .messageType) (name .messageType) && eqb (writtenName r .number) (name .number)
+isWritten name r =
+    not (isRetired r) && (eqb (writtenName r .messageType) (name .messageType) && eqb (writtenName r .number) (name .number))
 
--- a record before `end` has the name in its bytes
+-- a record before `end` is live by its bytes and has the name
 abbrev pub writtenBefore : List ℕ → NameFields → ℕ → Bool
 writtenBefore f name end = anyBelow (λ k. isWritten name (recordAt f k)) end
+
+-- 26 of record n by the bytes of those before it, from what was opened of it
+abbrev pub repeatsBy : (retired : Bool) → Fields → List ℕ → ℕ → Bool
+repeatsBy retired fields f n = not retired && writtenBefore f (nameOf fields) n
 
 -- the buckets by which check sees at once that a name is new: two of one name have one bucket
 abbrev pub buckets : ℕ
@@ -91,6 +101,9 @@ isRecordRefused (RadioRefused r) = false
 isRecordRefused TooLong = false
 isRecordRefused (MessageRefused r) = false
 isRecordRefused WrongBuffer = false
+isRecordRefused AlreadyRetired = false
+isRecordRefused WrongCopy = false
+isRecordRefused RecordRetired = false
 
 abbrev pub rowOf : Refusal → ℕ
 rowOf NotAGoldenFile = 0
@@ -104,6 +117,9 @@ rowOf (RadioRefused r) = 7
 rowOf TooLong = 8
 rowOf (MessageRefused r) = 9
 rowOf WrongBuffer = 10
+rowOf AlreadyRetired = 11
+rowOf WrongCopy = 12
+rowOf RecordRetired = 13
 
 abbrev pub rowNumber : ℕ → ℕ
 rowNumber row = cond (ltb row 7) (21 + row) (cond (ltb row 8) 31 (25 + row))

@@ -11,7 +11,10 @@ pub mod Positions
 pub mod Comparing
 pub mod Beginning
 pub mod Making
+pub mod Retiring
 pub mod Without26
+pub mod WithoutMark
 pub mod Gives
 pub mod Helpers
 pub mod Theorems
+pub mod Retired

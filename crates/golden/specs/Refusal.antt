@@ -4,7 +4,7 @@ use Rattle.envelope.specs.Refusals.{Refused, plainly, passingOn, TellsNumbers}
 use Rattle.envelope.specs.Told.{toldRefusal}
 use Rattle.envelope.specs.declared.refusals.Numbers.{Numbers}
 use Rattle.golden.specs.declared.refusal.Refusal.{Refusal}
-use Rattle.golden.specs.declared.refusal.Refusal.the-variants.{NotAGoldenFile, NoRecord, BadLength, NotClear, RecordRefused, NameTaken, NotFound, RadioRefused, TooLong, MessageRefused, WrongBuffer}
+use Rattle.golden.specs.declared.refusal.Refusal.the-variants.{NotAGoldenFile, NoRecord, BadLength, NotClear, RecordRefused, NameTaken, NotFound, RadioRefused, TooLong, MessageRefused, WrongBuffer, AlreadyRetired, WrongCopy, RecordRetired}
 
 abbrev pub toldGoldenRefusal : Refusal → Refused
 toldGoldenRefusal NotAGoldenFile = plainly 21
@@ -18,6 +18,9 @@ toldGoldenRefusal (RadioRefused r) = passingOn 31 (toldRefusal r)
 toldGoldenRefusal TooLong = plainly 33
 toldGoldenRefusal (MessageRefused r) = passingOn 34 (toldRefusal r)
 toldGoldenRefusal WrongBuffer = plainly 35
+toldGoldenRefusal AlreadyRetired = plainly 36
+toldGoldenRefusal WrongCopy = plainly 37
+toldGoldenRefusal RecordRetired = plainly 38
 
 -- what `Refusal::numbers` promises
 abbrev pub NumbersGoldenRefusal : Refusal → Numbers → Type 0

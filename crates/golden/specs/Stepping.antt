@@ -1,7 +1,7 @@
 -- Walk: a step answers the message of a record as a part of the file, its refusal, or the end, and the number of the next record. RULES 5.
--- That is one on, except at the end and at 21, where the walk stays. A number at or past the count is the end.
+-- A retired record's message is answered too, and that it is retired (K7). The next is one on, except at the end and at 21, where the walk stays. A number at or past the count is the end.
 use Prim.Native.Nat.{ℕ, _+_, _*_}
-use mathlib.Core.Bool.{cond}
+use mathlib.Core.Bool.{Bool, cond}
 use mathlib.Core.List.{List}
 use mathlib.Core.Path.{_≡_}
 use Rattle.envelope.specs.Fields.{Span}
@@ -16,7 +16,7 @@ use Rattle.golden.specs.declared.stepper.Reached.the-variants.{Message, 
 use Rattle.golden.specs.declared.stepper.Stepping.{Stepping}
 
 pub data StepAnswer : Type 0 where
-  message : Span → StepAnswer
+  message : (retired : Bool) → Span → StepAnswer
   refused : Refused → StepAnswer
   end : StepAnswer
 
@@ -25,7 +25,7 @@ abbrev pub messagePart : List ℕ → ℕ → Span
 messagePart f n = record { place = n * recordSize + headSize; size = storedLength (recordAt f n) }
 
 abbrev pub stepOf : List ℕ → ℕ → Judged → StepAnswer
-stepOf f n (good fields) = message (messagePart f n)
+stepOf f n (good retired fields) = message retired (messagePart f n)
 stepOf f n (bad r) = refused r
 
 unfoldable pub stepAt : List ℕ → ℕ → StepAnswer
@@ -38,7 +38,7 @@ unfoldable pub nextAfter : List ℕ → ℕ → ℕ
 nextAfter f n = cond (badFile f) n (cond (notThere f n) n (n + 1))
 
 abbrev pub toldReached : Reached → StepAnswer
-toldReached (Message part) = message (toldPart part)
+toldReached (Message part retired) = message retired (toldPart part)
 toldReached (StepRefused r) = refused (toldGoldenRefusal r)
 toldReached End = end
 

@@ -1,7 +1,7 @@
--- What users of a golden file rely on. Each statement is a type here; the proofs stand in proofs/ (WalkLaws, SteppingLaws, CheckedLaws, FoundLaws, SameLaws, MadeLaws, FewLaws, PointLaws, PassLaws, KeptLaws, DemandLaws).
+-- What users of a golden file rely on. Each statement is a type here; the proofs stand in proofs/ (WalkLaws, SteppingLaws, CheckedLaws, FoundLaws, SameLaws, MadeLaws, FewLaws, CountLaws, PointLaws, PassLaws, KeptLaws, DemandLaws).
 -- `f` and `g` are files, `n` counts records.
 use Prim.Native.Nat.{ℕ, suc, _+_, _*_, _≤_, _<_}
-use mathlib.Core.Bool.{true, false}
+use mathlib.Core.Bool.{Bool, true, false}
 use mathlib.Core.List.{List}
 use mathlib.Core.Logic.{_⊎_}
 use mathlib.Core.Path.{_≡_}
@@ -23,7 +23,7 @@ use Rattle.golden.specs.Comparing.{comparing, CompareAnswer, same, diffe
 use Rattle.golden.specs.File.{mostRecords, badFile, countOf, recordAt, judgedAt}
 use Rattle.golden.specs.Finding.{NameFields, hasName, nameOf, FindAnswer, found, finding}
 use Rattle.golden.specs.Finding as find
-use Rattle.golden.specs.Listing.{CountAnswer, counting, EntryAnswer, line, entryAt}
+use Rattle.golden.specs.Listing.{CountAnswer, counting, countingRetired, EntryAnswer, line, entryAt}
 use Rattle.golden.specs.Listing as listing
 use Rattle.golden.specs.Making.{MakeAnswer, made, refused, making, toldMaking, Makes}
 use Rattle.golden.specs.Making as make
@@ -62,15 +62,17 @@ OtherFileStays =
 
 -- the message that a step answers lies where the stored length says
 abbrev pub StepReachesTheStored : Type 0
-StepReachesTheStored = (f : List ℕ) (n : ℕ) (p : Span) → stepAt f n ≡ message p → storedMessage f n ≡ p
+StepReachesTheStored = (f : List ℕ) (n : ℕ) (retired : Bool) (p : Span) → stepAt f n ≡ message retired p → storedMessage f n ≡ p
 
 -- ---- check
 
+-- good, live or retired
 pub record GoodAt (f : List ℕ) (k : ℕ) : Type 0 where
+  pub retired : Bool
   pub fields : Fields
-  pub judged : judgedAt f k ≡ good fields
+  pub judged : judgedAt f k ≡ good retired fields
 
--- the first n records are good, and no two of them have one name
+-- the first n records are good, and no two live ones of them have one name
 pub record Sound (f : List ℕ) (n : ℕ) : Type 0 where
   pub records : (k : ℕ) → k < n → GoodAt f k
   pub apart : (i k : ℕ) → i < k → k < n → pairs (judgedAt f k) (judgedAt f i) ≡ false
@@ -88,7 +90,7 @@ CheckedAreSound = (f : List ℕ) (n : ℕ) → checking f ≡ counted n → Pass
 abbrev pub SoundAreChecked : Type 0
 SoundAreChecked = (f : List ℕ) (n : ℕ) → Passed f n → checking f ≡ counted n
 
--- where it refuses a file, it is no golden file; or all before the record that it names are sound, and that record is bad by that refusal, or good with the name of an earlier one
+-- where it refuses a file, it is no golden file; or all before the record that it names are sound, and that record is bad by that refusal, or live with the name of an earlier live one
 pub data FirstRefused (f : List ℕ) : ℕ → Refused → Type 0 where
   not-a-file : badFile f ≡ true → FirstRefused f 0 (plainly 21)
   bad-record : (n : ℕ) (r : Refused) → badFile f ≡ false → n < countOf f → judgedAt f n ≡ bad r → Sound f n → FirstRefused f n r
@@ -102,13 +104,13 @@ CheckNamesTheFirst = (f : List ℕ) (n : ℕ) (r : Refused) → checking f ≡ c
 abbrev pub FirstRefusedIsNamed : Type 0
 FirstRefusedIsNamed = (f : List ℕ) (n : ℕ) (r : Refused) → FirstRefused f n r → checking f ≡ check.refused n r
 
--- ---- K4, in plain words: two good records, of one type and one number
+-- ---- K4, in plain words: two live records, of one type and one number
 
 pub record OneName (f : List ℕ) (i k : ℕ) : Type 0 where
   pub first : Fields
   pub second : Fields
-  pub first-good : judgedAt f i ≡ good first
-  pub second-good : judgedAt f k ≡ good second
+  pub first-lives : judgedAt f i ≡ good false first
+  pub second-lives : judgedAt f k ≡ good false second
   pub same-type : first .header .messageType ≡ second .header .messageType
   pub same-number : first .header .number ≡ second .header .number
 
@@ -160,22 +162,23 @@ FewerStillPass = (f g : List ℕ) (n : ℕ) → checking f ≡ counted n → Tak
 
 -- ---- find
 
--- record i is good and has another name
+-- record i is good, and is retired or has another name
 pub record NotNamed (f : List ℕ) (name : NameFields) (i : ℕ) : Type 0 where
+  pub retired : Bool
   pub fields : Fields
-  pub judged : judgedAt f i ≡ good fields
-  pub other : hasName name fields ≡ false
+  pub judged : judgedAt f i ≡ good retired fields
+  pub other : isNamed name (good retired fields) ≡ false
 
--- the first record of the name, or 27 where none of n has it
+-- the first live record of the name, or 27 where none of n has it
 pub data FirstNamed (f : List ℕ) (name : NameFields) (n : ℕ) : FindAnswer → Type 0 where
-  first : (k : ℕ) (fields : Fields) → k < n → judgedAt f k ≡ good fields → hasName name fields ≡ true
+  first : (k : ℕ) (fields : Fields) → k < n → judgedAt f k ≡ good false fields → hasName name fields ≡ true
       → ((i : ℕ) → i < k → NotNamed f name i) → FirstNamed f name n (found k (k + 1))
   none : ((i : ℕ) → i < n → NotNamed f name i) → FirstNamed f name n (find.refused (plainly 27) n)
 
 abbrev pub FindsTheFirst : Type 0
 FindsTheFirst = (f : List ℕ) (name : NameFields) (n : ℕ) → checking f ≡ counted n → FirstNamed f name n (finding f name)
 
--- and in a file that passed it is the only one of its name
+-- and in a file that passed it is the only live one of its name
 pub data TheOne (f : List ℕ) (name : NameFields) (n : ℕ) : FindAnswer → Type 0 where
   one : (k : ℕ) → k < n → isNamed name (judgedAt f k) ≡ true → ((i : ℕ) → i < n → isNamed name (judgedAt f i) ≡ true → i ≡ k)
       → TheOne f name n (found k (k + 1))
@@ -184,19 +187,19 @@ pub data TheOne (f : List ℕ) (name : NameFields) (n : ℕ) : FindAnswer → Ty
 abbrev pub FindsTheOne : Type 0
 FindsTheOne = (f : List ℕ) (name : NameFields) (n : ℕ) → checking f ≡ counted n → TheOne f name n (finding f name)
 
--- why find answers as it does in any file: all records before the deciding one are good and have other names
+-- why find answers as it does in any file: all records before the deciding one are good, and retired or of other names
 pub data FindReason (f : List ℕ) (name : NameFields) : FindAnswer → Type 0 where
   no-file : badFile f ≡ true → FindReason f name (find.refused (plainly 21) 0)
   first-bad : (k : ℕ) (r : Refused) → badFile f ≡ false → k < countOf f → judgedAt f k ≡ bad r
       → ((i : ℕ) → i < k → NotNamed f name i) → FindReason f name (find.refused r (k + 1))
-  first-named : (k : ℕ) (fields : Fields) → badFile f ≡ false → k < countOf f → judgedAt f k ≡ good fields → hasName name fields ≡ true
+  first-named : (k : ℕ) (fields : Fields) → badFile f ≡ false → k < countOf f → judgedAt f k ≡ good false fields → hasName name fields ≡ true
       → ((i : ℕ) → i < k → NotNamed f name i) → FindReason f name (found k (k + 1))
   none-named : badFile f ≡ false → ((i : ℕ) → i < countOf f → NotNamed f name i) → FindReason f name (find.refused (plainly 27) (countOf f))
 
 abbrev pub FindGivesItsReason : Type 0
 FindGivesItsReason = (f : List ℕ) (name : NameFields) → FindReason f name (finding f name)
 
--- and each reason settles the answer: a record is found exactly when it is the first of the name, and 27 is answered exactly when there is none
+-- and each reason settles the answer: a record is found exactly when it is the first live one of the name, and 27 is answered exactly when there is none
 abbrev pub ReasonSettlesFind : Type 0
 ReasonSettlesFind = (f : List ℕ) (name : NameFields) (a : FindAnswer) → FindReason f name a → finding f name ≡ a
 
@@ -241,6 +244,9 @@ countedNumber (listing.refused r) = 0
 abbrev pub CountIsFew : Type 0
 CountIsFew = (f : List ℕ) → countedNumber (counting f) ≤ mostRecords
 
+abbrev pub RetiredAreFew : Type 0
+RetiredAreFew = (f : List ℕ) → countedNumber (countingRetired f) ≤ mostRecords
+
 -- the number of records opened, and that of the record found
 abbrev pub openedNumber : FindAnswer → ℕ
 openedNumber (found n opened) = opened
@@ -254,7 +260,7 @@ abbrev pub FindOpensFew : Type 0
 FindOpensFew = (f : List ℕ) (name : NameFields) → (openedNumber (finding f name) ≤ mostRecords) × (foundNumber (finding f name) ≤ mostRecords)
 
 abbrev pub reachedSize : StepAnswer → ℕ
-reachedSize (step.message part) = part .size
+reachedSize (step.message retired part) = part .size
 reachedSize (step.refused r) = 0
 reachedSize end = 0
 
@@ -279,7 +285,7 @@ countPlace (listing.counted n) = 0
 countPlace (listing.refused r) = placeIn r
 
 abbrev pub CountPointsNowhere : Type 0
-CountPointsNowhere = (f : List ℕ) → countPlace (counting f) ≡ 0
+CountPointsNowhere = (f : List ℕ) → (countPlace (counting f) ≡ 0) × (countPlace (countingRetired f) ≡ 0)
 
 abbrev pub checkPlace : CheckAnswer → ℕ
 checkPlace (counted n) = 0
@@ -296,7 +302,7 @@ abbrev pub FindPointsShort : Type 0
 FindPointsShort = (f : List ℕ) (name : NameFields) → findPlace (finding f name) ≤ messageRoom
 
 abbrev pub stepPlace : StepAnswer → ℕ
-stepPlace (step.message part) = 0
+stepPlace (step.message retired part) = 0
 stepPlace (step.refused r) = placeIn r
 stepPlace end = 0
 
@@ -304,7 +310,7 @@ abbrev pub StepPointsShort : Type 0
 StepPointsShort = (f : List ℕ) (n : ℕ) → stepPlace (stepAt f n) ≤ messageRoom
 
 abbrev pub entryPlace : EntryAnswer → ℕ
-entryPlace (line messageType number size) = 0
+entryPlace (line messageType number size retired) = 0
 entryPlace (listing.refused r) = placeIn r
 
 abbrev pub EntryPointsShort : Type 0

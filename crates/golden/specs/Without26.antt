@@ -1,4 +1,4 @@
--- What K4 changes: any file is answered as before, or refused as 26 and nothing else.
+-- What K4 changes: any file is answered as without 26, or refused as 26 and nothing else.
 -- Check without that refusal stands here beside the statements, and is no part of any promise. Proved in proofs/Without26Laws.
 use Prim.Native.Nat.{ℕ, zero, suc, _+_}
 use mathlib.Core.Bool.{false, cond}
@@ -23,6 +23,6 @@ pub data AsBeforeOr26 (before : CheckAnswer) : CheckAnswer → Type 0 where
 abbrev pub Only26IsNew : Type 0
 Only26IsNew = (f : List ℕ) → AsBeforeOr26 (checkingWithout26 f) (checking f)
 
--- so where the check passes now, it did before
+-- so where the check passes, it passes without 26 too
 abbrev pub PassedWithout26 : Type 0
 PassedWithout26 = (f : List ℕ) (n : ℕ) → checking f ≡ counted n → checkingWithout26 f ≡ counted n

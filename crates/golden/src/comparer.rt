@@ -24,10 +24,15 @@ pub fn compare(file: &[u8], n: usize, radio: &[u8], list: &mut [u32]) -> Compari
     match answer_at(file, n) {
         Reached::Refused(refusal) => Comparison::Refused(refusal),
         Reached::End => Comparison::Refused(Refusal::NoRecord),
-        Reached::Message(part) => match read(radio) {
-            Reading::Refused(refusal) => Comparison::Refused(Refusal::RadioRefused(refusal)),
-            Reading::Accepted(_) => compare_messages(part.slice(file), radio, list),
-        },
+        Reached::Message { part, retired } => {
+            if retired {
+                return Comparison::Refused(Refusal::RecordRetired);
+            }
+            match read(radio) {
+                Reading::Refused(refusal) => Comparison::Refused(Refusal::RadioRefused(refusal)),
+                Reading::Accepted(_) => compare_messages(part.slice(file), radio, list),
+            }
+        }
     }
 }
 

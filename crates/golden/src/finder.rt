@@ -1,4 +1,5 @@
-// Find: the first record of a name, before any bad record, with the number of records opened.
+// Find: the first live record of a name, before any bad record, with the number of records opened.
+ghost use mathlib.Core.Bool.{not, _&&_};
 ghost use mathlib.Core.Path.{_≡_};
 ghost use Prim.Native.Nat.{_≤_};
 ghost use Rattle.envelope.specs.Told.{toldEnvelope};
@@ -12,7 +13,7 @@ use crate::record::GoodRecord;
 use crate::record::Opening;
 use crate::refusal::Refusal;
 
-// A record's name: what find seeks, and what no two records of a checked file share.
+// A record's name: what find seeks, and what no two live records of a checked file share.
 pub struct Name {
     pub message_type: u16,
     pub number: u32,
@@ -90,7 +91,7 @@ fn weigh(opening: Opening, name: Name) -> Seen
     match opening {
         Opening::Bad(refusal) => Seen::Bad(refusal),
         Opening::Good(good) => {
-            if has_name(name, good) {
+            if is_named(name, good) {
                 return Seen::Sought;
             }
             Seen::Other
@@ -98,9 +99,13 @@ fn weigh(opening: Opening, name: Name) -> Seen
     }
 }
 
-fn has_name(name: Name, good: GoodRecord) -> bool
-    ensures { λ r. ⌜ r ≡ hasName (toldName name) (toldEnvelope (good .envelope)) ⌝ }
+// A retired record is not found by its name.
+fn is_named(name: Name, good: GoodRecord) -> bool
+    ensures { λ r. ⌜ r ≡ (not (good .retired) && hasName (toldName name) (toldEnvelope (good .envelope))) ⌝ }
 {
+    if good.retired {
+        return false;
+    }
     if good.envelope.header.message_type != name.message_type {
         return false;
     }

@@ -1,4 +1,4 @@
-// The golden file: check, walk, find, compare, make a record, and what a listing needs. The file is only read.
+// The golden file: check, walk, find, compare, make a record, retire one, and what a listing needs. The file is only read.
 // Rests on the crate `envelope`, by its promises and the laws that it exports.
 pub mod checker;
 pub mod comparer;
@@ -9,6 +9,7 @@ pub mod maker;
 mod positions;
 pub mod record;
 pub mod refusal;
+pub mod retirer;
 pub mod stepper;
 pub mod walker;
 
@@ -22,11 +23,14 @@ pub use crate::finder::find;
 pub use crate::lister::Counting;
 pub use crate::lister::Entry;
 pub use crate::lister::count;
+pub use crate::lister::count_retired;
 pub use crate::lister::entry_at;
 pub use crate::maker::Making;
 pub use crate::maker::make;
 pub use crate::record::Record;
 pub use crate::refusal::Refusal;
+pub use crate::retirer::Retiring;
+pub use crate::retirer::retire;
 pub use crate::stepper::Reached;
 pub use crate::stepper::Stepping;
 pub use crate::stepper::step;

@@ -4,7 +4,7 @@ ghost use Prim.Native.Nat.{_≤_};
 ghost use lib.ListN.{length};
 ghost use Rattle.golden.specs.Helpers.{toldOpening, opening};
 ghost use Rattle.golden.specs.Making.{recordOf};
-ghost use Rattle.golden.specs.Record.{recordSize, messageRoom, storedLength, allZero, badLength};
+ghost use Rattle.golden.specs.Record.{recordSize, messageRoom, storedWord, isRetired, storedLength, allZero, badLength};
 use crate::refusal::Refusal;
 use envelope::Envelope;
 use envelope::Reading;
@@ -19,6 +19,7 @@ pub struct Record {
 // What a good record holds.
 pub struct GoodRecord {
     pub size: usize,
+    pub retired: bool,
     pub envelope: Envelope,
 }
 
@@ -31,6 +32,10 @@ impl Record {
     pub const SIZE: usize = 512;
     // The stored length's own bytes.
     pub const HEAD_SIZE: usize = 2;
+    // The top bit of the stored length, which marks a retired record, and that bit in its first byte.
+    pub(crate) const RETIRED_MARK: u16 = 32768;
+
+    pub(crate) const TOP_BIT: u8 = 128;
     // The longest message that fits.
     pub const MESSAGE_ROOM: usize = Record::SIZE - Record::HEAD_SIZE;
     // Where the type and the number of its message stand.
@@ -71,7 +76,11 @@ pub(crate) fn open(bytes: &[u8]) -> Opening
         return Opening::Bad(Refusal::NotClear);
     }
     match read(&bytes[Record::HEAD_SIZE..end]) {
-        Reading::Accepted(envelope) => Opening::Good(GoodRecord { size, envelope }),
+        Reading::Accepted(envelope) => Opening::Good(GoodRecord {
+            size,
+            retired: is_retired(bytes),
+            envelope,
+        }),
         Reading::Refused(refusal) => Opening::Bad(Refusal::RecordRefused(refusal)),
     }
 }
@@ -80,7 +89,21 @@ pub(crate) fn stored_length(bytes: &[u8]) -> usize
     requires { ⌜ length (now bytes) ≡ recordSize ⌝ }
     ensures { λ r. ⌜ r ≡ storedLength (now (bytes .entry)) ⌝ }
 {
-    two_bytes(bytes[0], bytes[1]) as usize
+    (stored_word(bytes) % Record::RETIRED_MARK) as usize
+}
+
+pub(crate) fn is_retired(bytes: &[u8]) -> bool
+    requires { ⌜ length (now bytes) ≡ recordSize ⌝ }
+    ensures { λ r. ⌜ r ≡ isRetired (now (bytes .entry)) ⌝ }
+{
+    Record::RETIRED_MARK <= stored_word(bytes)
+}
+
+fn stored_word(bytes: &[u8]) -> u16
+    requires { ⌜ length (now bytes) ≡ recordSize ⌝ }
+    ensures { λ r. ⌜ r ≡ storedWord (now (bytes .entry)) ⌝ }
+{
+    two_bytes(bytes[0], bytes[1])
 }
 
 fn bad_length(size: usize) -> bool

@@ -18,6 +18,9 @@ pub enum Refusal {
     TooLong,
     MessageRefused(envelope::Refusal),
     WrongBuffer,
+    AlreadyRetired,
+    WrongCopy,
+    RecordRetired,
 }
 
 impl Refusal {
@@ -59,13 +62,16 @@ impl Refusal {
             Refusal::TooLong => 8,
             Refusal::MessageRefused(_) => 9,
             Refusal::WrongBuffer => 10,
+            Refusal::AlreadyRetired => 11,
+            Refusal::WrongCopy => 12,
+            Refusal::RecordRetired => 13,
         }
     }
 }
 
-// 21 to 27, 31, and 33 to 35. Counted and not listed, for of a list the compiler makes a table in the archive.
+// 21 to 27, 31, and 33 to 38. Counted and not listed, for of a list the compiler makes a table in the archive.
 fn number_of(row: u8) -> u8
-    requires { ⌜ row < 11 ⌝ }
+    requires { ⌜ row < 14 ⌝ }
     ensures { λ r. ⌜ r ≡ rowNumber row ⌝ }
 {
     if row < 7 {

@@ -11,7 +11,7 @@ use crate::refusal::Refusal;
 use envelope::Part;
 
 pub enum Reached {
-    Message(Part),
+    Message { part: Part, retired: bool },
     Refused(Refusal),
     End,
 }
@@ -40,10 +40,13 @@ pub(crate) fn answer_at(file: &[u8], n: usize) -> Reached
         return Reached::End;
     }
     match open_at(file, n) {
-        Opening::Good(good) => Reached::Message(Part {
-            place: n * Record::SIZE + Record::HEAD_SIZE,
-            size: good.size,
-        }),
+        Opening::Good(good) => Reached::Message {
+            part: Part {
+                place: n * Record::SIZE + Record::HEAD_SIZE,
+                size: good.size,
+            },
+            retired: good.retired,
+        },
         Opening::Bad(refusal) => Reached::Refused(refusal),
     }
 }

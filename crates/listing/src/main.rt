@@ -53,7 +53,8 @@ fn line(file: &[u8], n: usize) {
             message_type,
             number: message_number,
             size,
-        } => good(message_type, message_number, size),
+            retired,
+        } => good(message_type, message_number, size, retired),
         Entry::Refused(refusal) => {
             text(b" refused");
             numbers(refusal);
@@ -62,10 +63,13 @@ fn line(file: &[u8], n: usize) {
     end_line();
 }
 
-fn good(message_type: u16, message_number: u32, size: usize) {
+fn good(message_type: u16, message_number: u32, size: usize, retired: bool) {
     number(message_type as u64);
     number(message_number as u64);
     number(size as u64);
+    if retired {
+        text(b" retired");
+    }
 }
 
 fn numbers(refusal: Refusal) {

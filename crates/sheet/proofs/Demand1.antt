@@ -4,11 +4,13 @@ use Rattle.envelope.specs.Rewriting.{RefusedRewriteWritesNothing}
 use Rattle.envelope.specs.Writing.{RefusalWritesNothing}
 use Rattle.envelope.proofs.RewriteLaws.{refused-rewrite-writes-nothing}
 use Rattle.envelope.proofs.WriteLaws.{refusal-writes-nothing}
-use Rattle.golden.specs.Gives.{CountGives, CheckGives, FindGives, StepGives, EntryGives, CompareGives, MakeGives}
+use Rattle.golden.specs.Gives.{CountGives, CountRetiredGives, CheckGives, FindGives, StepGives, EntryGives, CompareGives, MakeGives, RetireGives}
+use Rattle.golden.specs.Retired.{RefusedRetiringKeepsBuffer}
 use Rattle.golden.specs.Theorems.{RefusedComparisonKeepsList, RefusedMakingKeepsBuffer}
+use Rattle.golden.proofs.RetiredLaws.{refused-retiring-keeps-buffer}
 use Rattle.golden.proofs.GivesLaws as gives
 use Rattle.golden.proofs.KeptLaws.{refused-comparison-keeps-list, refused-making-keeps-buffer}
-use Rattle.exports.specs.Kept.{ReadKeeps, WriteKeeps, RewriteKeeps, LineKeeps, StepKeeps, CompareKeeps, MakeKeeps, UnwrapKeeps, WrapKeeps, AcknowledgeKeeps, TakeKeepsFields}
+use Rattle.exports.specs.Kept.{ReadKeeps, WriteKeeps, RewriteKeeps, LineKeeps, StepKeeps, CompareKeeps, MakeKeeps, RetireKeeps, UnwrapKeeps, WrapKeeps, AcknowledgeKeeps, TakeKeepsFields}
 use Rattle.exports.specs.Word.{WordTellsItsSlots}
 use Rattle.exports.proofs.FitsLaws.{word-tells-its-slots}
 use Rattle.exports.proofs.KeptLaws as kept
@@ -21,6 +23,9 @@ a-word-tells-its-slots = word-tells-its-slots
 
 pub count-gives : CountGives
 count-gives = gives.count-gives
+
+pub count-retired-gives : CountRetiredGives
+count-retired-gives = gives.count-retired-gives
 
 pub check-gives : CheckGives
 check-gives = gives.check-gives
@@ -40,6 +45,9 @@ compare-gives = gives.compare-gives
 pub make-gives : MakeGives
 make-gives = gives.make-gives
 
+pub retire-gives : RetireGives
+retire-gives = gives.retire-gives
+
 -- ---- a refusal leaves what was lent as it was
 
 -- a refusal of `write` leaves the buffer as it was
@@ -57,6 +65,10 @@ a-refused-comparison-keeps-the-list = refused-comparison-keeps-list
 -- and one of `make` its buffer
 pub a-refused-making-keeps-the-buffer : RefusedMakingKeepsBuffer
 a-refused-making-keeps-the-buffer = refused-making-keeps-buffer
+
+-- and one of `retire` its buffer
+pub a-refused-retiring-keeps-the-buffer : RefusedRetiringKeepsBuffer
+a-refused-retiring-keeps-the-buffer = refused-retiring-keeps-buffer
 
 -- ---- the same of each C function that writes into lent storage
 
@@ -80,6 +92,9 @@ refused-compare-for-c-keeps = kept.compare-keeps
 
 pub refused-make-for-c-keeps : MakeKeeps
 refused-make-for-c-keeps = kept.make-keeps
+
+pub refused-retire-for-c-keeps : RetireKeeps
+refused-retire-for-c-keeps = kept.retire-keeps
 
 pub refused-unwrap-for-c-keeps : UnwrapKeeps
 refused-unwrap-for-c-keeps = kept.unwrap-keeps

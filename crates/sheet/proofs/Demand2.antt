@@ -74,7 +74,7 @@ first-refused-is-named = checked.first-refused-is-named
 pub finds-the-first : FindsTheFirst
 finds-the-first = checked.finds-the-first
 
--- ---- K4: no two records of one name
+-- ---- K4: no two live records of one name
 
 pub no-two-of-one-name : NoTwoOfOneName
 no-two-of-one-name = checked.no-two-of-one-name

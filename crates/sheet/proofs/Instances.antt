@@ -43,9 +43,10 @@ use Rattle.golden.specs.Finding as find
 use Rattle.golden.specs.Listing.{counting, entryAt}
 use Rattle.golden.specs.Making.{making, recordOf}
 use Rattle.golden.specs.Making as make
-use Rattle.golden.specs.Record.{storedWord, storedLength, badLength, allZero, judging, messageOf}
+use Rattle.golden.specs.Record.{storedWord, isRetired, storedLength, badLength, allZero, judging, messageOf}
 use Rattle.golden.specs.Stepping.{end, stepAt, nextAfter, toldReached}
 use Rattle.golden.specs.Stepping as step
+use Rattle.golden.specs.Retiring.{marked, done, retiring}
 use Rattle.golden.specs.Theorems.{Passed, FirstRefused, FirstNamed, no-file, MadeGood, InOrder}
 use Rattle.golden.specs.declared.comparer.Comparison.the-variants as comparison
 use Rattle.golden.specs.declared.maker.Making.the-variants.{Made}
@@ -67,6 +68,8 @@ use Rattle.sheet.proofs.Apart.{apart}
 use Rattle.sheet.proofs.Demand3.{four-bytes-show, thirty-two-bits-show, three-bits-show, bytes-at-the-edge-show, two-and-two-show, demand-3, demand-3-bits, golden-demand-3, three-bits-anywhere, golden-three-bits-anywhere, any-window, golden-any-window, middle-window, golden-middle-window}
 use Rattle.sheet.proofs.Limits.{limits, bytes-of-pair, pair-length, pair-outside}
 use Rattle.sheet.proofs.OneFeed.{envelopeM}
+use Rattle.golden.proofs.MadeLaws.{retires}
+use Rattle.golden.proofs.RetiredLaws.{retire-marks-one, retired-still-passes, retired-are-bytes}
 use Rattle.sheet.proofs.OneRecord.{one-checks, one-holds, one-declares}
 use Rattle.sheet.proofs.WrongAnswers.{givenM, writes-M}
 use Rattle.sheet.proofs.WrongGolden.{checks-M}
@@ -186,8 +189,8 @@ empty-file-walks lent e =
 abbrev twoRecords : List ℕ
 twoRecords = recordOf M ++ replicate 512 0
 
-good-step : stepAt twoRecords 0 ≡ step.message (record { place = 2; size = 21 })
-unfolding stepAt badFile judgedAt judging badLength storedLength storedWord allZero recordOf twoAt
+good-step : stepAt twoRecords 0 ≡ step.message false (record { place = 2; size = 21 })
+unfolding stepAt badFile judgedAt judging badLength isRetired storedLength storedWord allZero recordOf twoAt
 good-step = rw (starred .a .0)
 
 bad-step : stepAt twoRecords 1 ≡ step.refused (plainly 23)
@@ -212,7 +215,7 @@ walkAt lent (suc zero) = record { file = lent; next = 1 }
 walkAt lent (suc (suc k)) = record { file = lent; next = 2 }
 
 abbrev reachedAt : ℕ → Reached
-reachedAt zero = Message (record { place = 2; size = 21 })
+reachedAt zero = Message (record { place = 2; size = 21 }) false
 reachedAt (suc zero) = reached.Refused BadLength
 reachedAt (suc (suc k)) = End
 
@@ -250,7 +253,7 @@ pub entry-gave-22 : Gives (21 ∷ 22 ∷ 23 ∷ 24 ∷ []) (25 ∷ []) (plainly 
 unfolding entryAt badFile
 entry-gave-22 = entry-gives [] 0 (plainly 22) refl
 
-pub compare-gave-22 : Gives (21 ∷ 22 ∷ 23 ∷ 24 ∷ []) (25 ∷ 31 ∷ []) (plainly 22)
+pub compare-gave-22 : Gives (21 ∷ 22 ∷ 23 ∷ 24 ∷ 38 ∷ []) (25 ∷ 31 ∷ []) (plainly 22)
 unfolding comparing compare.answerToComparing badFile
 compare-gave-22 = compare-gives [] 0 M (plainly 22) refl
 
@@ -339,6 +342,30 @@ pub file-of-C-in-three-bits : fileC ≡ fileC
 file-of-C-in-three-bits =
     golden-three-bits-anywhere fileC fileC 1 1 0 (bytes-of-pair .0) (bytes-of-pair .0) checks-C checks-C (omega arith) declares-in-file declares-in-file refl
     (λ i h. refl, λ i h. refl) (rw (bitsApart-same (messageOf (recordAt fileC 0))) (lit≤ tt))
+
+-- and of that record retired
+abbrev retiredC : List ℕ
+retiredC = marked fileC 0
+
+retires-C : retiring fileC 0 512 ≡ done
+retires-C = retires C (declares-C .fields) (lit≤ tt) (declares-C .accepts)
+
+checks-retired : checking retiredC ≡ counted 1
+checks-retired = retired-still-passes fileC 0 512 1 retires-C checks-C
+
+holds-retired : messageOf (recordAt retiredC 0) ≡ messageOf (recordAt fileC 0)
+holds-retired = retire-marks-one fileC 0 512 retires-C .same-message
+
+declares-retired : DeclaresCrc (messageOf (recordAt retiredC 0))
+declares-retired = rw holds-retired declares-in-file
+
+bytes-retired : Bytes retiredC
+bytes-retired = retired-are-bytes fileC 0 512 retires-C (bytes-of-pair .0)
+
+pub retired-file-of-C : retiredC ≡ retiredC
+retired-file-of-C =
+    golden-demand-3 retiredC retiredC 1 1 0 0 bytes-retired bytes-retired checks-retired checks-retired (omega arith) declares-retired declares-retired
+    (rw (holds-retired, holds-C) (before (omega arith))) refl (λ i h. refl, λ i h. refl)
 
 -- three bytes before the field and one in it; and the last two of the message with the first two zeros behind it
 pub file-of-C-across-the-edge : fileC ≡ fileC

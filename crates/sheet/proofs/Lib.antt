@@ -34,3 +34,7 @@ pub mod SmallFiles
 pub mod NameCases
 pub mod WrongNames
 pub mod NameInstances
+pub mod RetiredCases
+pub mod WrongRetirings
+pub mod Retiring
+pub mod RetiredInstances

@@ -12,12 +12,12 @@ use Rattle.golden.specs.File.{badFile, judgedAt}
 use Rattle.golden.specs.Finding.{findFrom, finding}
 use Rattle.golden.specs.Making.{recordOf}
 use Rattle.golden.specs.Pairing.{anyBelow}
-use Rattle.golden.specs.Record.{storedWord, storedLength, allZero, badLength, judging}
+use Rattle.golden.specs.Record.{storedWord, isRetired, storedLength, allZero, badLength, judging}
 use Rattle.golden.specs.Without26.{checkFromWithout26, checkingWithout26}
 use Rattle.sheet.specs.NameCases.{NameCases}
 
 pub names : NameCases
-unfolding reading readingWhole fieldsOf headerOf addressingOf integrityOf heading announced badFlags badVariableSize badAddresses badIntegrity twoAt threeAt fourAt badFile recordOf storedWord storedLength allZero badLength judging judgedAt anyBelow repeats checkFrom checking checkFromWithout26 checkingWithout26 findFrom finding
+unfolding reading readingWhole fieldsOf headerOf addressingOf integrityOf heading announced badFlags badVariableSize badAddresses badIntegrity twoAt threeAt fourAt badFile recordOf storedWord isRetired storedLength allZero badLength judging judgedAt anyBelow repeats checkFrom checking checkFromWithout26 checkingWithout26 findFrom finding
 names =
     record {
       the-later = refl;

@@ -17,7 +17,7 @@ use Rattle.golden.specs.File.{badFile, countOf, recordAt, judgedAt}
 use Rattle.golden.specs.Finding.{nameOf, found, finding}
 use Rattle.golden.specs.Making.{recordOf}
 use Rattle.golden.specs.Pairing.{anyBelow}
-use Rattle.golden.specs.Record.{storedWord, storedLength, allZero, badLength, judging}
+use Rattle.golden.specs.Record.{storedWord, isRetired, storedLength, allZero, badLength, judging}
 use Rattle.golden.specs.Theorems.{GoodAt, OneName, Later, NamedBy, TakenOut, TheOne}
 use Rattle.golden.specs.Without26.{checkingWithout26}
 use Rattle.golden.proofs.FileLaws.{one-more}
@@ -35,7 +35,7 @@ twice-has-a-later = refuses-the-later twice 1 (names .the-later)
 
 -- the records up to the later one are good: those before it are sound, and so is it
 all-good : (m : ℕ) → m < 2 → GoodAt twice m
-all-good = one-more (GoodAt twice) 1 (twice-has-a-later .sound .records) (record { fields = _; judged = twice-has-a-later .one-name .second-good })
+all-good = one-more (GoodAt twice) 1 (twice-has-a-later .sound .records) (record { retired = _; fields = _; judged = twice-has-a-later .one-name .second-lives })
 
 whole : badFile twice ≡ false
 unfolding badFile recordOf
@@ -71,7 +71,7 @@ abbrev withoutMiddle : List ℕ
 withoutMiddle = recordOf (numbered 1) ++ recordOf (numbered 3)
 
 three-pass : checking three ≡ counted 3
-unfolding reading readingWhole fieldsOf headerOf addressingOf integrityOf heading announced badFlags badVariableSize badAddresses badIntegrity twoAt threeAt fourAt badFile recordOf storedWord storedLength allZero badLength judging judgedAt anyBelow repeats checkFrom checking
+unfolding reading readingWhole fieldsOf headerOf addressingOf integrityOf heading announced badFlags badVariableSize badAddresses badIntegrity twoAt threeAt fourAt badFile recordOf storedWord isRetired storedLength allZero badLength judging judgedAt anyBelow repeats checkFrom checking
 three-pass = refl
 
 counts : (countOf three ≡ 3) × ((countOf withoutMiddle ≡ 2) × (badFile withoutMiddle ≡ false))

@@ -2,7 +2,7 @@
 -- `morlewen_crc`, `morlewen_distance` and `morlewen_frame_first` promise what `crc`, `distance` and `first` do; their wrong answers stand in WrongAnswers and WrongFrames.
 use mathlib.Core.List.{List, [], _∷_}
 use mathlib.Core.Path.{ap, _∙_}
-use Prim.Native.Nat.{ℕ, _+_, _*_}
+use Prim.Native.Nat.{ℕ, _+_, _*_, _-_}
 use lib.ListN.{take, set, getD, replicate}
 use Rattle.envelope.specs.Fields.{Answer}
 use Rattle.envelope.specs.Lateness.{latenessOf}
@@ -14,9 +14,10 @@ use Rattle.golden.specs.Comparing.{comparing, afterComparing}
 use Rattle.golden.specs.Comparing as compare
 use Rattle.golden.specs.File.{badFile}
 use Rattle.golden.specs.Finding.{findFrom, finding}
-use Rattle.golden.specs.Listing.{counting, entryAt}
+use Rattle.golden.specs.Listing.{CountAnswer, counting, countingRetired, EntryAnswer, entryAt}
 use Rattle.golden.specs.Making.{making, recordOf}
-use Rattle.golden.specs.Stepping.{stepAt, nextAfter}
+use Rattle.golden.specs.Retiring.{marked, retiring}
+use Rattle.golden.specs.Stepping.{StepAnswer, stepAt, nextAfter}
 use Rattle.feed.specs.Feeding.{State, refused as refusedStand, FeedOutcome, ending}
 use Rattle.feed.specs.Verdict.{tooLong}
 use Rattle.frame.specs.Unwrapping.{UnwrapAnswer}
@@ -27,13 +28,15 @@ use Rattle.judge.specs.Rules.{leastRule, versionRule, flagsRule, addressesRule}
 use Rattle.exports.specs.Envelopes.{readSlots, fieldsAfter, ReadsForC, writeSlots, WritesForC, RewritesForC, qosFor, SplitsForC, JoinsForC, JudgesLatenessForC, JudgesSequenceForC}
 use Rattle.exports.specs.Feeds.{foundSlots, Lent, lent, lentAfter, TakesForC, EndsForC, RestartsForC, HoldsForC}
 use Rattle.exports.specs.Frames.{unwrapSlots, commidsAfter, messageFields, FrameLent, lentFor, UnwrapsForC, wrapSlots, WrapsForC, AcknowledgesForC}
-use Rattle.exports.specs.Goldens.{CountsForC, checkSlots, ChecksForC, nameFor, FindsForC, EntersForC, StepsForC, ComparesForC, MakesForC}
+use Rattle.exports.specs.Goldens.{countSlots, CountsForC, CountsRetiredForC, checkSlots, ChecksForC, nameFor, FindsForC, lineSlots, EntersForC, stepSlots, StepsForC, ComparesForC, MakesForC, RetiresForC}
 use Rattle.exports.specs.Verdicts.{JudgesForC, VerdictLent, verdictLent, JudgesPlacesForC}
 use Rattle.exports.specs.Word.{slots, word, sized}
 use Rattle.sheet.specs.Cases.{M}
+use Rattle.sheet.specs.SmallFiles.{withdrawn}
 use Rattle.sheet.specs.FeedCases.{heldBy, announcing511}
 use Rattle.sheet.specs.FrameCases.{held, reply}
 use Rattle.sheet.proofs.Apart.{apart}
+use Rattle.sheet.proofs.RetiredCases.{retirings}
 use Rattle.sheet.proofs.Cases.{starred}
 use Rattle.sheet.proofs.FeedCases.{feed-cases}
 use Rattle.sheet.proofs.FrameCases.{unwrap-cases, wrap-cases}
@@ -186,6 +189,37 @@ make-for-c-refuses-a-short-buffer exit kept = apart 0 35 tt (rw (starred .a .0) 
 pub make-for-c-tells-what-reading-said : (exit : List ℕ) → MakesForC (take 20 M) [] (34 + 20 * 4294967296) exit → ⊥
 unfolding making word
 make-for-c-tells-what-reading-said exit kept = apart (34 + 20 * 4294967296) (34 + 256 + 20 * 4294967296) tt (rw (starred .b) at (kept .0))
+
+-- ---- retire: one byte told as retired; the buffer written on a refusal
+
+pub retire-for-c-refuses-one-byte : (entry exit : List ℕ) → RetiresForC (7 ∷ []) 0 entry 0 exit → ⊥
+unfolding retiring badFile word
+retire-for-c-refuses-one-byte entry exit kept = apart 0 21 tt (kept .0)
+
+pub retire-for-c-writes-nothing-on-a-refusal : RetiresForC [] 0 (9 ∷ []) 22 (0 ∷ []) → ⊥
+unfolding retiring badFile
+retire-for-c-writes-nothing-on-a-refusal kept = apart 0 9 tt (ap (λ (s : List ℕ). getD s 0 0) (kept .1))
+
+-- ---- the count of the retired: one byte told as a file; a retired record told as live
+
+pub retired-records-for-c-refuses-one-byte : CountsRetiredForC (7 ∷ []) 0 → ⊥
+unfolding countingRetired badFile word
+retired-records-for-c-refuses-one-byte kept = apart 0 21 tt kept
+
+pub retired-records-for-c-tells-how-many : CountsRetiredForC withdrawn 0 → ⊥
+unfolding word
+retired-records-for-c-tells-how-many kept = apart 0 65536 tt (kept ∙ ap (λ (a : CountAnswer). word (countSlots a)) (retirings .counts-retired))
+
+-- ---- line and step: a retired record told as a live one
+
+pub line-for-c-tells-that-it-is-retired : (entry exit : List ℕ) → EntersForC withdrawn 0 entry 0 exit → ⊥
+unfolding word
+line-for-c-tells-that-it-is-retired entry exit kept = apart 0 256 tt (kept .0 ∙ ap (λ (a : EntryAnswer). word (lineSlots a)) (retirings .lists-retired))
+
+pub step-for-c-tells-that-it-is-retired : (entry exit : List ℕ) → StepsForC withdrawn 0 entry (65536 + 21 * 4294967296) exit → ⊥
+unfolding word nextAfter badFile recordOf marked
+step-for-c-tells-that-it-is-retired entry exit kept =
+    apart (65536 + 21 * 4294967296) (256 + 65536 + 21 * 4294967296) tt (kept .0 ∙ ap (λ (a : StepAnswer). word (stepSlots a (nextAfter withdrawn 0 - 0))) (retirings .steps-retired))
 
 -- 17 bytes that announce 511 are in, and 51 stands
 abbrev refusedFeed : State

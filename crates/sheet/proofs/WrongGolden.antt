@@ -1,5 +1,6 @@
 -- For each promise about golden files two answers that a careless program would give, each refuted by computing.
 -- `M` is a message of document 01, and `recordOf M` a file of its one record.
+use mathlib.Core.Bool.{false}
 use mathlib.Core.List.{List, [], _∷_, _++_}
 use mathlib.Core.Path.{_≡_, refl, sym, ap, _∙_}
 use Prim.Native.Nat.{ℕ}
@@ -17,6 +18,8 @@ use Rattle.golden.specs.Listing.{counting, entryAt, Counts, Enters}
 use Rattle.golden.specs.Making.{making, recordOf, afterMaking, MakeAnswer, made, refused, Makes}
 use Rattle.golden.specs.Positions.{noted}
 use Rattle.golden.specs.Record.{storedWord, storedLength, badLength, judging}
+use Rattle.golden.specs.Retiring.{marked, RetireAnswer, done, retiring, afterRetiring, Retires}
+use Rattle.golden.specs.Retiring as retire
 use Rattle.envelope.specs.Refusals.{Refused, plainly, RefusalNumbers, numbersOf}
 use Rattle.golden.specs.Refusal.{NumbersGoldenRefusal}
 use Rattle.golden.specs.Stepping.{stepAt, nextAfter, Steps, storedMessage, Stores}
@@ -31,9 +34,11 @@ use Rattle.golden.specs.declared.lister.Entry.the-variants as entry
 use Rattle.golden.specs.declared.maker.Making.the-variants as making
 use Rattle.golden.specs.declared.refusal.Refusal.{Refusal}
 use Rattle.golden.specs.declared.refusal.Refusal.the-variants.{NotAGoldenFile, NoRecord, BadLength, RecordRefused, NotFound}
+use Rattle.golden.specs.declared.retirer.Retiring.the-variants as retiring
 use Rattle.golden.specs.declared.stepper.Reached.{Reached}
 use Rattle.golden.specs.declared.stepper.Reached.the-variants.{End}
-use Rattle.golden.proofs.MadeLaws.{checks, compared, compares, finds}
+use Rattle.golden.proofs.MadeLaws.{checks, compared, compares, finds, retires}
+use Rattle.golden.proofs.RetiredLaws.{retired-twice}
 use Rattle.sheet.specs.Cases.{M, likeM}
 use Rattle.sheet.proofs.Apart.{apart}
 use Rattle.sheet.proofs.Cases.{starred}
@@ -140,7 +145,7 @@ entry-refuses-the-file-first kept =
     let same : _≡_ {A = Refused} (plainly 22) (plainly 21) = cc in
     apart 22 21 tt (ap (λ (r : Refused). numbersOf r .number) same)
 
-pub entry-invents-no-line : Enters [] 0 (entry.Good 0 0 0) → ⊥
+pub entry-invents-no-line : Enters [] 0 (entry.Good 0 0 0 false) → ⊥
 unfolding entryAt badFile
 entry-invents-no-line kept = let z : _≡_ {A = ℕ} 0 1 = cc in omega arith
 
@@ -184,6 +189,26 @@ pub make-puts-zeros-behind : Makes M (replicate 512 0) making.Made (set (recordO
 unfolding recordOf
 make-puts-zeros-behind kept =
     apart 1 0 tt (ap (λ (s : List ℕ). getD s 511 0) (kept .1 ∙ ap (λ (a : MakeAnswer). afterMaking a M (replicate 512 0)) makes-M))
+
+-- ---- retire: one byte for a file; nothing marked; a record retired twice
+
+pub retire-refuses-one-byte : (entry exit : List ℕ) → Retires (7 ∷ []) 0 entry retiring.Done exit → ⊥
+unfolding retiring badFile
+retire-refuses-one-byte entry exit kept = let z : _≡_ {A = ℕ} 0 1 = cc in omega arith
+
+retires-M : retiring (recordOf M) 0 512 ≡ done
+retires-M = retires M (likeM absent 17 0) (omega arith) (starred .a .0)
+
+pub retire-marks-the-record : Retires (recordOf M) 0 (replicate 512 0) retiring.Done (recordOf M) → ⊥
+unfolding marked recordOf
+retire-marks-the-record kept =
+    apart 0 128 tt (ap (λ (s : List ℕ). getD s 0 0) (kept .1 ∙ ap (λ (a : RetireAnswer). afterRetiring a (recordOf M) 0 (replicate 512 0)) retires-M))
+
+pub retire-refuses-a-retired-record : (exit : List ℕ) → Retires (marked (recordOf M) 0) 0 (replicate 512 0) retiring.Done exit → ⊥
+retire-refuses-a-retired-record exit kept =
+    let z : done ≡ retire.refused (plainly 36) = kept .0 ∙ retired-twice (recordOf M) 0 512 512 retires-M in
+    let y : _≡_ {A = ℕ} 0 1 = cc in
+    omega arith
 
 -- ---- the numbers of a refusal: another rule's; reading's own left out
 

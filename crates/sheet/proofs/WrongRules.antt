@@ -27,7 +27,7 @@ use Rattle.golden.specs.Comparing as compare
 use Rattle.golden.specs.File.{badFile, judgedAt}
 use Rattle.golden.specs.Making.{made, making, recordOf, Makes}
 use Rattle.golden.specs.Making as make
-use Rattle.golden.specs.Record.{messageRoom, storedWord, storedLength, allZero, badLength, judging}
+use Rattle.golden.specs.Record.{messageRoom, storedWord, isRetired, storedLength, allZero, badLength, judging}
 use Rattle.envelope.specs.Refusals.{Refused, plainly, passingOn}
 use Rattle.golden.specs.declared.checker.Checking.the-variants.{Count}
 use Rattle.golden.specs.declared.comparer.Comparison.{Comparison}
@@ -174,7 +174,7 @@ check-does-not-pass-over-25 n kept = counted-not-refused n 0 (passingOn 25 (refu
 -- ---- compare: a radio's message that reading refuses
 
 pub refused-radio : comparing (recordOf M) 0 (take 20 M) ≡ compare.refused (passingOn 31 (refusalBy 1 20))
-unfolding comparing badFile judgedAt judging badLength storedLength storedWord allZero recordOf twoAt
+unfolding comparing badFile judgedAt judging badLength isRetired storedLength storedWord allZero recordOf twoAt
 refused-radio = rw (starred .a .0, starred .b)
 
 pub compare-does-not-pass-over-31 : (entry exit : List ℕ) → Compares (recordOf M) 0 (take 20 M) entry Same exit → ⊥

@@ -1,4 +1,4 @@
--- Files of one and two records, of M with other numbers, and what check says of them.
+-- Files of one and two records, of M with other numbers, one of them retired, and what check and find say of them.
 -- The checker computes them, in proofs/SmallFiles.
 use Prim.Native.Nat.{ℕ}
 use mathlib.Core.List.{List, _++_}
@@ -7,8 +7,9 @@ use lib.ListN.{set}
 use Rattle.envelope.specs.Fields.{refusalBy}
 use Rattle.envelope.specs.Refusals.{Refused, passingOn}
 use Rattle.golden.specs.Checking.{counted, checking}
-use Rattle.golden.specs.Finding.{NameFields}
+use Rattle.golden.specs.Finding.{NameFields, found, finding}
 use Rattle.golden.specs.Making.{recordOf}
+use Rattle.golden.specs.Retiring.{marked}
 use Rattle.sheet.specs.Cases.{M}
 
 -- M with another number, and its name
@@ -20,6 +21,10 @@ name n = record { messageType = 6000; number = n }
 
 abbrev pub two : List ℕ
 two = recordOf (numbered 1) ++ recordOf (numbered 2)
+
+-- the same with its first record retired
+abbrev pub withdrawn : List ℕ
+withdrawn = marked two 0
 
 -- one name twice
 abbrev pub twice : List ℕ
@@ -34,3 +39,6 @@ by25 = passingOn 25 (refusalBy 7 17)
 
 pub record SmallFiles : Type 0 where
   pub two-pass : checking two ≡ counted 2
+  pub withdrawn-passes : checking withdrawn ≡ counted 2
+  pub finds-first : finding two (name 1) ≡ found 0 1
+  pub finds-second : finding two (name 2) ≡ found 1 2

@@ -12,8 +12,8 @@ use Rattle.golden.proofs.NameLaws.{name-is-written}
 use Rattle.golden.proofs.BucketLaws.{none-used, used-on}
 use Rattle.golden.specs.Checking.{repeats, checkFrom}
 use Rattle.golden.specs.File.{recordAt, judgedAt}
-use Rattle.golden.specs.Finding.{NameFields, toldName}
-use Rattle.golden.specs.Helpers.{toldOpening, writtenName, writtenBefore, buckets, bucketOf, UsedBefore}
+use Rattle.golden.specs.Finding.{nameOf}
+use Rattle.golden.specs.Helpers.{toldOpening, writtenName, buckets, bucketOf, UsedBefore}
 use Rattle.golden.specs.Record.{good}
 use Rattle.golden.specs.Theorems.{GoodAt}
 use Rattle.golden.proofs.checker.check.Statement.{statement}
@@ -30,8 +30,8 @@ abbrev μ-loop : tie.MeasureT-loop
 good-here : (c : tie.After-good2 Inv-loop μ-loop) →
     let loop = c .before .before .before .before in
     let start = loop .before .before .before .before .before in
-    judgedAt (start .args .file .now) (loop .loop .n) ≡ good (toldEnvelope (c .good2 .given .0 .0 .envelope))
-good-here c = judged-good _ _ _ _ (ap toldOpening (sym (c .good2 .given .1)) ∙ c .before .before .open-at .ensures) .0
+    judgedAt (start .args .file .now) (loop .loop .n) ≡ good (c .good2 .given .0 .0 .retired) (toldEnvelope (c .good2 .given .0 .0 .envelope))
+good-here c = judged-good _ _ _ _ _ (ap toldOpening (sym (c .good2 .given .1)) ∙ c .before .before .open-at .ensures) .0
 
 -- its bucket is that of the name in its bytes
 bucket-here : (c : tie.After-bucket-of Inv-loop μ-loop) →
@@ -39,19 +39,16 @@ bucket-here : (c : tie.After-bucket-of Inv-loop μ-loop) →
     let start = loop .before .before .before .before .before in
     bucketOf (writtenName (recordAt (start .args .file .now) (loop .loop .n))) ≡ c .bucket-of .result
 bucket-here c =
-    ap bucketOf (sym (name-is-written _ _ _ (good-here (c .before .before .before))) ∙ sym (c .before .of .ensures)) ∙ sym (c .bucket-of .ensures .0)
+    ap bucketOf (sym (name-is-written _ _ _ _ (good-here (c .before .before .before))) ∙ sym (c .before .of .ensures)) ∙ sym (c .bucket-of .ensures .0)
 
--- and its name is taken, or not
-taken : (c : tie.After-name-taken Inv-loop μ-loop) →
+-- and an earlier live one has its name, or none
+repeated : (c : tie.After-is-repeated Inv-loop μ-loop) →
     let loop = c .before .before .before .before .before .before .before .before in
     let start = loop .before .before .before .before .before in
-    repeats (start .args .file .now) (loop .loop .n) ≡ c .name-taken .result
-taken c =
+    repeats (start .args .file .now) (loop .loop .n) ≡ c .is-repeated .result
+repeated c =
     let loop = c .before .before .before .before .before .before .before .before in
-    let start = loop .before .before .before .before .before in
-    repeats-by-bytes _ _ _ (good-here (c .before .before .before .before)) (loop .loop .inv .2)
-    ∙ ap (λ (name : NameFields). writtenBefore (start .args .file .now) name (loop .loop .n)) (sym (c .before .before .of .ensures))
-    ∙ sym (c .name-taken .ensures)
+    repeats-by-bytes _ _ _ _ (good-here (c .before .before .before .before)) (loop .loop .inv .2) ∙ sym (c .is-repeated .ensures)
 
 bad-file-requires : tie.Need-bad-file-requires Inv-loop μ-loop
 bad-file-requires c κs = search needs
@@ -87,14 +84,14 @@ of-requires c κs = search needs
 bucket-of-requires : tie.Need-bucket-of-requires Inv-loop μ-loop
 bucket-of-requires c κs = search needs
 
-array-read-name-taken : tie.Need-array-read-name-taken Inv-loop μ-loop
-array-read-name-taken c = omega (arith, c .before .before .before .before .before .before .before .loop .inv .3, c .bucket-of .ensures .1)
+array-read-is-repeated : tie.Need-array-read-is-repeated Inv-loop μ-loop
+array-read-is-repeated c = omega (arith, c .before .before .before .before .before .before .before .loop .inv .3, c .bucket-of .ensures .1)
 
-name-taken-requires : tie.Need-name-taken-requires Inv-loop μ-loop
-name-taken-requires c κs =
+is-repeated-requires : tie.Need-is-repeated-requires Inv-loop μ-loop
+is-repeated-requires c κs =
     let loop = c .before .before .before .before .before .before .before in (
       omega arith,
-      λ e. none-used _ (loop .loop .used) (toldName (c .before .of .result)) _ (loop .loop .inv .4) (ap (λ (s : ℕ). getD (loop .loop .used) s false) (sym (c .bucket-of .ensures .0)) ∙ e),
+      λ e. none-used _ (loop .loop .used) (nameOf (toldEnvelope (c .before .before .before .good2 .given .0 .0 .envelope))) _ (loop .loop .inv .4) (ap (λ (s : ℕ). getD (loop .loop .used) s false) (sym (c .bucket-of .ensures .0 ∙ ap bucketOf (c .before .of .ensures))) ∙ e),
     )
 
 returns-3 : tie.Need-returns-3 Inv-loop μ-loop
@@ -103,7 +100,7 @@ returns-3 c =
     let count = loop .before in
     check-all _ (sym (count .before .before .bad-file .ensures) ∙ count .before .if1 .left) _
     (rw (← count .count-of .ensures)
-    (loop .loop .inv .1 ∙ check-on _ _ _ (c .before .before .before .before .before .before .before .before .loop-test .taken) _ (taken (c .before) ∙ c .if2 .taken) _ (good-here (c .before .before .before .before .before))))
+    (loop .loop .inv .1 ∙ check-on _ _ _ (c .before .before .before .before .before .before .before .before .loop-test .taken) _ (repeated (c .before) ∙ c .if2 .taken) _ (good-here (c .before .before .before .before .before))))
 
 array-write-used : tie.Need-array-write-used Inv-loop μ-loop
 array-write-used c = omega (arith, c .before .before .before .before .before .before .before .before .before .loop .inv .3, c .before .before .bucket-of .ensures .1)
@@ -122,8 +119,8 @@ loop-again c =
     let room = loop .loop .inv .3 in
     let within = bucket .bucket-of .ensures .1 in (
       omega arith,
-      loop .loop .inv .1 ∙ check-on _ _ _ (c .before .before .before .before .before .before .before .before .loop-test .taken) _ (taken (c .before) ∙ c .if2 .left) _ here,
-      one-more (GoodAt _) _ (loop .loop .inv .2) (record { fields = _; judged = here }),
+      loop .loop .inv .1 ∙ check-on _ _ _ (c .before .before .before .before .before .before .before .before .loop-test .taken) _ (repeated (c .before) ∙ c .if2 .left) _ here,
+      one-more (GoodAt _) _ (loop .loop .inv .2) (record { retired = _; fields = _; judged = here }),
       length-set (loop .loop .used) (bucket .bucket-of .result) true ∙ room,
       used-on _ (loop .loop .used) _ (bucket .bucket-of .result) (omega (arith, room, within)) (bucket-here bucket) (loop .loop .inv .4),
     )
@@ -150,8 +147,8 @@ check-spec =
     enum-known-good
     of-requires
     bucket-of-requires
-    array-read-name-taken
-    name-taken-requires
+    array-read-is-repeated
+    is-repeated-requires
     returns-3
     array-write-used
     add-n

@@ -1,5 +1,6 @@
 -- `lister::entry_at`: 21, 22, or the record as it is judged.
 use mathlib.Core.Path.{ap, sym, _∙_}
+use Prim.Native.Nat.{ℕ}
 use borrow.Author.Needs.{needs}
 use borrow.Author.Tests.{le-leb}
 use Rattle.golden.proofs.FindingLaws.{judged-bad, judged-good}
@@ -36,8 +37,8 @@ returns-3 : tie.Need-returns-3
 returns-3 c =
     let there = c .before .before .before .before in
     let header = c .before .good2 .given .0 .0 .envelope .header in
-    let j = judged-good _ _ _ _ (ap toldOpening (sym (c .before .good2 .given .1)) ∙ c .before .before .before .open-at .ensures) in
-    ap (line (header .«message_type») (header .number)) (j .1)
+    let j = judged-good _ _ _ _ _ (ap toldOpening (sym (c .before .good2 .given .1)) ∙ c .before .before .before .open-at .ensures) in
+    ap (λ (l : ℕ). line (header .«message_type») (header .number) l (c .before .good2 .given .0 .0 .retired)) (j .1)
     ∙ there-entered _ _ _ (there .before .count-of .ensures) (sym (there .before .before .before .bad-file .ensures) ∙ there .before .before .if1 .left) (there .if2 .left) _ (j .0)
 
 returns-4 : tie.Need-returns-4

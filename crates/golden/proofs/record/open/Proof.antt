@@ -1,5 +1,5 @@
 -- `record::open` judges length, zeros and message in that order.
-use mathlib.Core.Path.{ap, sym, _∙_}
+use mathlib.Core.Path.{refl, ap, sym, _∙_}
 use Prim.Native.Nat.{_≤_}
 use native.Mathlib.Omega.{arith}
 use borrow.Author.Needs.{needs}
@@ -8,7 +8,7 @@ use Rattle.envelope.specs.Told.{told}
 use Rattle.golden.proofs.OpeningLaws.{opened-23, opened-24, opened-by}
 use Rattle.golden.proofs.RecordLaws.{length-most}
 use Rattle.golden.specs.Helpers.{openedAs}
-use Rattle.golden.specs.Record.{messageRoom, byReading}
+use Rattle.golden.specs.Record.{messageRoom, isRetired, byReading}
 use Rattle.golden.proofs.record.open.Statement.{statement}
 use Rattle.golden.proofs.record.open.Tie as tie
 
@@ -60,22 +60,26 @@ read-requires c κs = search needs
 enum-known-envelope : tie.Need-enum-known-envelope
 enum-known-envelope c = search needs
 
+is-retired-requires : tie.Need-is-retired-requires
+is-retired-requires c κs = search needs
+
 enum-known-refusal : tie.Need-enum-known-refusal
 enum-known-refusal c = search needs
 
 returns-3 : tie.Need-returns-3
 returns-3 c =
-    let clear = c .before .before .before .before .before in
+    let clear = c .before .before .before .before .before .before in
     let size = clear .before .before .before .before .before in
-    ap (λ (a : Answer). openedAs (size .stored-length .result) (byReading a)) (ap told (sym (c .before .envelope .given .1)))
-    ∙ opened-by _ _ (size .stored-length .ensures) (sym (clear .before .before .before .before .bad-length .ensures) ∙ clear .before .before .before .if1 .left) _ (clear .before .all-zero .ensures) (clear .if2 .left) _ (c .before .before .before .read .ensures)
+    ap (λ (a : Answer). openedAs (size .stored-length .result) (byReading (c .is-retired .result) a)) (ap told (sym (c .before .before .envelope .given .1)))
+    ∙ opened-by _ _ (size .stored-length .ensures) (sym (clear .before .before .before .before .bad-length .ensures) ∙ clear .before .before .before .if1 .left) _ (clear .before .all-zero .ensures) (clear .if2 .left) _ (c .is-retired .ensures) _ (c .before .before .before .before .read .ensures)
 
 returns-4 : tie.Need-returns-4
 returns-4 c =
     let clear = c .before .before .before .before .before in
     let size = clear .before .before .before .before .before in
-    ap (λ (a : Answer). openedAs (size .stored-length .result) (byReading a)) (ap told (sym (c .before .refusal .given .1)))
-    ∙ opened-by _ _ (size .stored-length .ensures) (sym (clear .before .before .before .before .bad-length .ensures) ∙ clear .before .before .before .if1 .left) _ (clear .before .all-zero .ensures) (clear .if2 .left) _ (c .before .before .before .read .ensures)
+    let mark = isRetired (size .before .before .args .bytes .now) in
+    ap (λ (a : Answer). openedAs (size .stored-length .result) (byReading mark a)) (ap told (sym (c .before .refusal .given .1)))
+    ∙ opened-by _ _ (size .stored-length .ensures) (sym (clear .before .before .before .before .bad-length .ensures) ∙ clear .before .before .before .if1 .left) _ (clear .before .all-zero .ensures) (clear .if2 .left) mark refl _ (c .before .before .before .read .ensures)
 
 pub open-spec : {M : Type 1} → statement M
 open-spec =
@@ -95,6 +99,7 @@ open-spec =
     part-read-end
     read-requires
     enum-known-envelope
+    is-retired-requires
     enum-known-refusal
     returns-3
     returns-4)

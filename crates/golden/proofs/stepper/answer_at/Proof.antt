@@ -43,8 +43,8 @@ enum-known-refusal c = search needs
 returns-3 : tie.Need-returns-3
 returns-3 c =
     let there = c .before .before .before .before in
-    let j = judged-good _ _ _ _ (ap toldOpening (sym (c .before .good2 .given .1)) ∙ c .before .before .before .open-at .ensures) in
-    ap (λ (l : ℕ). message (record { place = there .before .before .before .before .before .args .n * recordSize + headSize; size = l })) (j .1)
+    let j = judged-good _ _ _ _ _ (ap toldOpening (sym (c .before .good2 .given .1)) ∙ c .before .before .before .open-at .ensures) in
+    ap (λ (l : ℕ). message (c .before .good2 .given .0 .0 .retired) (record { place = there .before .before .before .before .before .args .n * recordSize + headSize; size = l })) (j .1)
     ∙ there-steps _ _ _ (there .before .count-of .ensures) (sym (there .before .before .before .bad-file .ensures) ∙ there .before .before .if1 .left) (there .if2 .left) _ (j .0)
 
 returns-4 : tie.Need-returns-4

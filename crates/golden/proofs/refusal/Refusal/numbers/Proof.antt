@@ -7,24 +7,27 @@ use denote.Enum.Declared.{tagOf}
 use types.Run.{OneOf, miss}
 use Rattle.golden.specs.Helpers.{isRecordRefused}
 use Rattle.golden.specs.declared.refusal.Refusal.{Refusal}
-use Rattle.golden.specs.declared.refusal.Refusal.the-variants.{NotAGoldenFile, NoRecord, BadLength, NotClear, RecordRefused, NameTaken, NotFound, RadioRefused, TooLong, MessageRefused, WrongBuffer}
+use Rattle.golden.specs.declared.refusal.Refusal.the-variants.{NotAGoldenFile, NoRecord, BadLength, NotClear, RecordRefused, NameTaken, NotFound, RadioRefused, TooLong, MessageRefused, WrongBuffer, AlreadyRetired, WrongCopy, RecordRetired}
 use Rattle.golden.proofs.refusal.Refusal as type
 use Rattle.golden.proofs.refusal.Refusal.numbers.Statement.{statement}
 use Rattle.golden.proofs.refusal.Refusal.numbers.Tie as tie
 
 -- the last arm, by the places in the enum
-not-of-record : (r : Refusal) → OneOf (0 ∷ 1 ∷ 2 ∷ 3 ∷ 5 ∷ 6 ∷ 7 ∷ 8 ∷ 9 ∷ 10 ∷ []) (tagOf type.the-type r) → isRecordRefused r ≡ false
+not-of-record : (r : Refusal) → OneOf (0 ∷ 1 ∷ 2 ∷ 3 ∷ 5 ∷ 6 ∷ 7 ∷ 8 ∷ 9 ∷ 10 ∷ 11 ∷ 12 ∷ 13 ∷ []) (tagOf type.the-type r) → isRecordRefused r ≡ false
 not-of-record NotAGoldenFile h = refl
 not-of-record NoRecord h = refl
 not-of-record BadLength h = refl
 not-of-record NotClear h = refl
-not-of-record (RecordRefused r) h = absurd (miss (0 ∷ 1 ∷ 2 ∷ 3 ∷ 5 ∷ 6 ∷ 7 ∷ 8 ∷ 9 ∷ 10 ∷ []) 4 tt h)
+not-of-record (RecordRefused r) h = absurd (miss (0 ∷ 1 ∷ 2 ∷ 3 ∷ 5 ∷ 6 ∷ 7 ∷ 8 ∷ 9 ∷ 10 ∷ 11 ∷ 12 ∷ 13 ∷ []) 4 tt h)
 not-of-record NameTaken h = refl
 not-of-record NotFound h = refl
 not-of-record (RadioRefused r) h = refl
 not-of-record TooLong h = refl
 not-of-record (MessageRefused r) h = refl
 not-of-record WrongBuffer h = refl
+not-of-record AlreadyRetired h = refl
+not-of-record WrongCopy h = refl
+not-of-record RecordRetired h = refl
 
 enum-known-self : tie.Need-enum-known-self
 enum-known-self c = search needs

@@ -10,14 +10,14 @@ use Rattle.envelope.proofs.BoolLaws.{true-is-not-false}
 use Rattle.golden.specs.Helpers.{isRecordRefused, rowOf, rowNumber}
 use Rattle.golden.specs.Refusal.{toldGoldenRefusal}
 use Rattle.golden.specs.declared.refusal.Refusal.{Refusal}
-use Rattle.golden.specs.declared.refusal.Refusal.the-variants.{NotAGoldenFile, NoRecord, BadLength, NotClear, RecordRefused, NameTaken, NotFound, RadioRefused, TooLong, MessageRefused, WrongBuffer}
+use Rattle.golden.specs.declared.refusal.Refusal.the-variants.{NotAGoldenFile, NoRecord, BadLength, NotClear, RecordRefused, NameTaken, NotFound, RadioRefused, TooLong, MessageRefused, WrongBuffer, AlreadyRetired, WrongCopy, RecordRetired}
 use Rattle.golden.proofs.RefusalLaws.{row-few, told-plainly, told-passing}
 use Rattle.golden.proofs.refusal.Refusal as type
 use Rattle.golden.proofs.refusal.Refusal.other_numbers.Statement.{statement}
 use Rattle.golden.proofs.refusal.Refusal.other_numbers.Tie as tie
 
 -- the last arm, by the places in the enum
-told-rest : (r : Refusal) → isRecordRefused r ≡ false → OneOf (0 ∷ 1 ∷ 2 ∷ 3 ∷ 4 ∷ 5 ∷ 6 ∷ 8 ∷ 10 ∷ []) (tagOf type.the-type r)
+told-rest : (r : Refusal) → isRecordRefused r ≡ false → OneOf (0 ∷ 1 ∷ 2 ∷ 3 ∷ 4 ∷ 5 ∷ 6 ∷ 8 ∷ 10 ∷ 11 ∷ 12 ∷ 13 ∷ []) (tagOf type.the-type r)
     → numbersOf (plainly (rowNumber (rowOf r))) ≡ numbersOf (toldGoldenRefusal r)
 told-rest NotAGoldenFile e h = refl
 told-rest NoRecord e h = refl
@@ -26,10 +26,13 @@ told-rest NotClear e h = refl
 told-rest (RecordRefused r) e h = absurd (true-is-not-false refl e)
 told-rest NameTaken e h = refl
 told-rest NotFound e h = refl
-told-rest (RadioRefused r) e h = absurd (miss (0 ∷ 1 ∷ 2 ∷ 3 ∷ 4 ∷ 5 ∷ 6 ∷ 8 ∷ 10 ∷ []) 7 tt h)
+told-rest (RadioRefused r) e h = absurd (miss (0 ∷ 1 ∷ 2 ∷ 3 ∷ 4 ∷ 5 ∷ 6 ∷ 8 ∷ 10 ∷ 11 ∷ 12 ∷ 13 ∷ []) 7 tt h)
 told-rest TooLong e h = refl
-told-rest (MessageRefused r) e h = absurd (miss (0 ∷ 1 ∷ 2 ∷ 3 ∷ 4 ∷ 5 ∷ 6 ∷ 8 ∷ 10 ∷ []) 9 tt h)
+told-rest (MessageRefused r) e h = absurd (miss (0 ∷ 1 ∷ 2 ∷ 3 ∷ 4 ∷ 5 ∷ 6 ∷ 8 ∷ 10 ∷ 11 ∷ 12 ∷ 13 ∷ []) 9 tt h)
 told-rest WrongBuffer e h = refl
+told-rest AlreadyRetired e h = refl
+told-rest WrongCopy e h = refl
+told-rest RecordRetired e h = refl
 
 row-requires : tie.Need-row-requires
 row-requires c κs = search needs
