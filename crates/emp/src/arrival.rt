@@ -1,5 +1,7 @@
 // The line of a message that has arrived: what it is, how it follows the one before, and the record of its type and number.
 // Rests on `envelope` for the sequence and on `golden` for the record; the line is written in one call.
+use crate::golden_files::NamedRetired;
+use crate::golden_files::retired_named;
 use crate::watching::Stream;
 use crate::watching::more;
 use envelope::Header;
@@ -49,6 +51,7 @@ pub fn tell_message(
             beside.record as u64,
             beside.number,
             beside.record as u64,
+            beside.record as u64,
         ],
         message,
     )
@@ -74,7 +77,7 @@ fn worded(words: u64, record: usize, number: u64) -> Wording {
     }
 }
 
-// The golden file was checked, so a record is found, or none has that type and number.
+// The golden file was checked, so a record is found, or no live one has that type and number; one that is retired may.
 fn beside_in(stream: Stream, header: Header, message: &[u8], golden: &[u8]) -> Wording {
     if !stream.beside {
         return worded(0, 0, 0);
@@ -85,11 +88,14 @@ fn beside_in(stream: Stream, header: Header, message: &[u8], golden: &[u8]) -> W
     };
     match find(golden, name) {
         Finding::Found { record, opened: _ } => compared_with(message, golden, record),
-        _ => worded(1, 0, 0),
+        _ => match retired_named(golden, name) {
+            NamedRetired::At(record) => worded(5, record, 0),
+            NamedRetired::Nowhere => worded(1, 0, 0),
+        },
     }
 }
 
-// Of the places only their total is told. Other answers are not met: the record is good, and the message was read.
+// Of the places only their total is told. Other answers are not met: the record is good and live, and the message was read.
 fn compared_with(message: &[u8], golden: &[u8], record: usize) -> Wording {
     let mut places = [0u32; 1];
     match compare(golden, record, message, &mut places) {

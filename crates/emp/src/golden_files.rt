@@ -1,5 +1,5 @@
 // List, check and find: what a golden file holds.
-// Rests on `golden`, which judges, finds and counts, and knows where a record has its message.
+// Rests on `golden`, which judges, finds and counts, and knows where a record has its message. Which retired record has a name is told by its entries.
 use crate::refusing::refuse_by;
 use golden::Checking;
 use golden::Counting;
@@ -9,6 +9,7 @@ use golden::Name;
 use golden::Refusal;
 use golden::check;
 use golden::count;
+use golden::count_retired;
 use golden::entry_at;
 use golden::find;
 use golden::stored_message;
@@ -22,6 +23,12 @@ use wording::refusals::SEARCHED_RECORD;
 use wording::refusals::Subject;
 use wording::rows;
 use wording::tell;
+
+// A retired record of a name, or none.
+pub enum NamedRetired {
+    At(usize),
+    Nowhere,
+}
 
 // Every record, a line each, good or bad.
 pub fn list_file(manner: Manner, file: &[u8]) -> Status {
@@ -60,11 +67,18 @@ fn list_record(manner: Manner, file: &[u8], n: usize) -> Status {
             message_type,
             number,
             size,
+            retired,
         } => tell(
             manner,
             Status::Done,
             rows::LISTED,
-            &[n as u64, message_type as u64, number as u64, size as u64],
+            &[
+                n as u64,
+                message_type as u64,
+                number as u64,
+                size as u64,
+                retired as u64,
+            ],
             file,
         ),
         Entry::Refused(refusal) => refuse_record(manner, file, n, refusal),
@@ -73,8 +87,47 @@ fn list_record(manner: Manner, file: &[u8], n: usize) -> Status {
 
 pub fn check_file(manner: Manner, file: &[u8]) -> Status {
     match check(file) {
-        Checking::Count(count) => tell(manner, Status::Done, rows::CHECKED, &[count as u64], file),
+        Checking::Count(count) => tell_checked(manner, file, count),
         Checking::Refused { record, refusal } => refuse_checked(manner, file, record, refusal),
+    }
+}
+
+// The count, how many are retired, and each of those: no sum guards the mark.
+fn tell_checked(manner: Manner, file: &[u8], records: usize) -> Status {
+    let retired = match count_retired(file) {
+        Counting::Count(retired) => retired,
+        Counting::Refused(_) => 0,
+    };
+    let numbers = [records as u64, retired as u64];
+    match tell(manner, Status::Done, rows::CHECKED, &numbers, file) {
+        Status::Done => tell_retired(manner, file, records),
+        _ => Status::Complained,
+    }
+}
+
+fn tell_retired(manner: Manner, file: &[u8], records: usize) -> Status {
+    let mut n = 0;
+    while n < records {
+        if is_retired(entry_at(file, n)) {
+            let told = tell(manner, Status::Done, rows::ONE_RETIRED, &[n as u64], file);
+            if told.is_complaint() {
+                return Status::Complained;
+            }
+        }
+        n += 1;
+    }
+    tell(manner, Status::Done, rows::LINE_END, &[], file)
+}
+
+fn is_retired(entry: Entry) -> bool {
+    match entry {
+        Entry::Good {
+            message_type: _,
+            number: _,
+            size: _,
+            retired,
+        } => retired,
+        Entry::Refused(_) => false,
     }
 }
 
@@ -92,6 +145,7 @@ fn refuse_taken(manner: Manner, file: &[u8], record: usize, refusal: Refusal) ->
             message_type,
             number,
             size: _,
+            retired: _,
         } => {
             let name = Name {
                 message_type,
@@ -137,8 +191,59 @@ pub fn find_record(manner: Manner, file: &[u8], name: Name) -> Status {
         Finding::Refused { refusal, opened } => {
             let what = what_of(refusal, SEARCHED_FILE, SEARCHED_RECORD);
             let of = subject_in(file, what, last_of(opened), opened as u64);
-            refuse_by(manner, of, refusal.numbers())
+            match refuse_by(manner, of, refusal.numbers()) {
+                Status::Complained => Status::Complained,
+                _ => tell_named_retired(manner, file, name, refusal),
+            }
         }
+    }
+}
+
+// With 27 the first record of that name that is retired, if there is one.
+fn tell_named_retired(manner: Manner, file: &[u8], name: Name, refusal: Refusal) -> Status {
+    match refusal {
+        Refusal::NotFound => match retired_named(file, name) {
+            NamedRetired::At(record) => tell(
+                manner,
+                Status::Refused,
+                rows::NAMED_RETIRED,
+                &[record as u64],
+                file,
+            ),
+            NamedRetired::Nowhere => Status::Refused,
+        },
+        _ => Status::Refused,
+    }
+}
+
+// The first record that is retired and has the name.
+pub fn retired_named(file: &[u8], name: Name) -> NamedRetired {
+    match count(file) {
+        Counting::Count(records) => retired_among(file, name, records),
+        Counting::Refused(_) => NamedRetired::Nowhere,
+    }
+}
+
+fn retired_among(file: &[u8], name: Name, records: usize) -> NamedRetired {
+    let mut n = 0;
+    while n < records {
+        if is_named_retired(entry_at(file, n), name) {
+            return NamedRetired::At(n);
+        }
+        n += 1;
+    }
+    NamedRetired::Nowhere
+}
+
+fn is_named_retired(entry: Entry, name: Name) -> bool {
+    match entry {
+        Entry::Good {
+            message_type,
+            number,
+            size: _,
+            retired,
+        } => retired && message_type == name.message_type && number == name.number,
+        Entry::Refused(_) => false,
     }
 }
 

@@ -39,19 +39,20 @@ use wording::telling::complain;
 // One row for each command, in the order of the constants of `commands`: its form, what it does, and what it tells plainly.
 fn main() {
     status::tell(run(
-        b"list GOLDEN\tevery record: its type, number and length, or its refusal\tgood RECORD TYPE NUMBER LENGTH, or refused RECORD REFUSAL READING PLACE FILE-PLACE
-check GOLDEN\tthe count of records, or the first that is bad or has the type and number of an earlier one\tgood COUNT, or refused RECORD REFUSAL READING PLACE FILE-PLACE, and with 26 the EARLIER record behind these
-find GOLDEN TYPE NUMBER\tthe first record of that type and number, and how many were opened\tfound RECORD OPENED, or refused RECORD OPENED REFUSAL READING PLACE FILE-PLACE
+        b"list GOLDEN\tevery record: its type, number and length and whether it is retired, or its refusal\tgood RECORD TYPE NUMBER LENGTH, and the word retired behind these where it is, or refused RECORD REFUSAL READING PLACE FILE-PLACE
+check GOLDEN\tthe count of records and which are retired, or the first that is bad or is live and has the type and number of an earlier live one\tgood COUNT RETIRED, which is how many are retired, and then the number of each, or refused RECORD REFUSAL READING PLACE FILE-PLACE, and with 26 the EARLIER record behind these
+find GOLDEN TYPE NUMBER\tthe first live record of that type and number, and how many were opened\tfound RECORD OPENED, or refused RECORD OPENED REFUSAL READING PLACE FILE-PLACE, and then retired RECORD where a retired one has them
 compare GOLDEN RECORD RADIO\ta record beside the radio's message: same, or where the two differ\tsame LENGTH, or different TOTAL and then place PLACE GOLDEN RADIO FIELD for each place below 512, or refused REFUSAL READING PLACE FILE-PLACE
 read MESSAGE\tevery field of a message, or its refusal, and its bytes with the place in brackets\taccepted LENGTH TYPE VERSION FLAGS DATA-LENGTH NUMBER TIME VARIABLE-SIZE TTL QOS SOURCE DESTINATION BODY-PLACE INTEGRITY KIND, or refused REFUSAL READING PLACE
 judge MESSAGE\tevery rule of reading by itself: kept, broken or not judged, with the numbers found; then what read says\trule RULE VERDICT PLACE for each rule, kept, broken or unjudged, and then accepted LENGTH, or refused REFUSAL READING PLACE
 late MESSAGE ENTRY CLOCK\twhether a message that entered the messaging infrastructure at second ENTRY is late at second CLOCK, and by how much\tin-time SECONDS, late SECONDS, no-clock REASON, which is absent without a variable header and zero with a time to live of 0, or refused REFUSAL READING PLACE
 sum FILE\tthe CRC of all bytes of a file\tsum CRC LENGTH
 make MESSAGE\tthe record of 512 bytes that holds a message, to standard output\tthe record, or on standard error refused REFUSAL READING PLACE
+retire GOLDEN RECORD\ta copy of a golden file in which that record is retired, to standard output\tthe copy, or on standard error refused REFUSAL READING PLACE FILE-PLACE
 unwrap FRAME\ta frame: what it is, its COMMIDs, and its message as read tells it; of a capture, which is frames end to end, a line for each, up to the first refused\tdata FRAME PLACE COMMID TYPE NUMBER LENGTH, acknowledgment FRAME PLACE COMMID ACKNOWLEDGED, or refused FRAME PLACE REFUSAL READING MESSAGE-PLACE FILE-PLACE
 wrap COMMID MESSAGE\tthe data message, with that COMMID, that carries a message, to standard output\tthe frame, or on standard error refused REFUSAL READING PLACE
 acknowledge COMMID ACKNOWLEDGED\tthe acknowledgment, with a COMMID of its own, of the COMMID ACKNOWLEDGED, to standard output\tthe frame
-watch [GOLDEN]\tevery message of standard input the moment its last byte is in, and the record of its type and number: same, or in how many places the two differ\tmessage MESSAGE TYPE NUMBER LENGTH DISTANCE RECORD DIFFERING, or refused MESSAGE BYTES REFUSAL READING PLACE STREAM-PLACE; of a GOLDEN that check refuses what check tells
+watch [GOLDEN]\tevery message of standard input the moment its last byte is in, and the record of its type and number: same, in how many places the two differ, or that it is retired\tmessage MESSAGE TYPE NUMBER LENGTH DISTANCE RECORD DIFFERING, and the word retired behind these where the record is, or refused MESSAGE BYTES REFUSAL READING PLACE STREAM-PLACE; of a GOLDEN that check refuses what check tells
 help [COMMAND]\tthis, or what a command does\tthe form of each command
 ",
         b"--plain\n-q\n--help\n-h\n--version\n--\n",
@@ -142,9 +143,12 @@ fn on_file(command: Command) -> Status {
 // A golden file that is too long is left to the library, which refuses it by its number.
 fn most_for(row: usize) -> usize {
     match row {
-        commands::LIST | commands::CHECK | commands::FIND | commands::COMPARE | commands::WATCH => {
-            ROOM
-        }
+        commands::LIST
+        | commands::CHECK
+        | commands::FIND
+        | commands::COMPARE
+        | commands::RETIRE
+        | commands::WATCH => { ROOM }
         _ => MOST,
     }
 }
@@ -162,6 +166,7 @@ fn answer_on(command: Command, file: &[u8]) -> Status {
         commands::LATE => { lateness::late_message(manner, file, command.number, command.further) }
         commands::SUM => making::sum_file(manner, file),
         commands::MAKE => making::make_record(manner, file),
+        commands::RETIRE => making::retire_record(manner, file, command.number as usize),
         commands::UNWRAP => framing::unwrap_file(manner, file),
         commands::WRAP => framing::wrap_message(manner, narrow(command.number), file),
         _ => watching::watch_beside(manner, file),

@@ -38,15 +38,17 @@ pub const SUM: usize = 7;
 
 pub const MAKE: usize = 8;
 
-pub const UNWRAP: usize = 9;
+pub const RETIRE: usize = 9;
 
-pub const WRAP: usize = 10;
+pub const UNWRAP: usize = 10;
 
-pub const ACKNOWLEDGE: usize = 11;
+pub const WRAP: usize = 11;
 
-pub const WATCH: usize = 12;
+pub const ACKNOWLEDGE: usize = 12;
 
-pub const HELP: usize = 13;
+pub const WATCH: usize = 13;
+
+pub const HELP: usize = 14;
 
 // A command with its numbers, and the places of the arguments that name its files; 0 where there is none.
 pub struct Command {

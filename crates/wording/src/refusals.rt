@@ -148,12 +148,15 @@ fn by_refusals(to: i32, half: usize, numbers: &[u64]) -> Status {
 23\tthe stored length is below 21 or above 510
 24\ta byte after the message is not zero
 25\tthe record's message is refused by reading
-26\tan earlier record has the type and number of this one
-27\tevery record is good and none has that type and number
+26\tan earlier live record has the type and number of this one
+27\tevery record is good and no live one has that type and number
 31\tthe radio's message is refused by reading
 33\tthe message is over 510 bytes, the most that a record holds
 34\tthe message for the record is refused by reading
 35\tthe room for the record is not 512 bytes
+36\tthe record is retired already
+37\tthe room for the copy is not as long as the file
+38\tthe record is retired
 51\tthe announced length is over 510 bytes
 52\tthe end came inside a message
 61\tfewer than 13 bytes, the least that a frame has

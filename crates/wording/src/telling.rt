@@ -44,15 +44,17 @@ pub(crate) fn put_by(to: i32, status: Status, half: usize, numbers: &[u64], lent
         half,
         numbers,
         lent,
-        b"message #: type #, number #, # byte*, {first|repeat|next|ahead #|behind #}{|, no record of that type and number|, record #, same|, record #, different in # place*|, record #, not compared}
-\0message\t#\t#\t#\t#\t{-|0|1|#|-#}\t{-\t-|-\t-|#\t0|#\t#|#\t-}
+        b"message #: type #, number #, # byte*, {first|repeat|next|ahead #|behind #}{|, no record of that type and number|, record #, same|, record #, different in # place*|, record #, not compared|, record # is retired}
+\0message\t#\t#\t#\t#\t{-|0|1|#|-#}\t{-\t-|-\t-|#\t0|#\t#|#\t-|#\t-\tretired}
 \0# record*
-\0\0record #: type #, number #, # byte*
-\0good\t#\t#\t#\t#
-\0good: # record*
-\0good\t#
+\0\0record #: type #, number #, # byte*{|, retired}
+\0good\t#\t#\t#\t#{|\tretired}
+\0good: # record*_\0good\t#\t#\0, record # retired\0\t#\0
+\0
 \0record #: refused #, type #, number # is already that of record #
 \0refused\t#\t#__\t0\t0\t-\t#
+\0record # has that type and number, and is retired
+\0retired\t#
 \0record # (# opened)
 \0found\t#\t#
 \0same, # byte*
