@@ -44,6 +44,11 @@ fn changed(place: usize, byte: u8) -> Vec<u8> {
     message
 }
 
+/// M with a field of 1.
+pub fn spoiled() -> Vec<u8> {
+    changed(20, 1)
+}
+
 /// M with this name: a type and a message number.
 pub fn named(message_type: u16, number: u32) -> Vec<u8> {
     let mut message = shortest();
@@ -87,7 +92,7 @@ pub fn messages() -> Vec<Case> {
         ("c", changed(0, 3), 2, 0),
         ("d", changed(16, 5), 4, 16),
         ("e", longer, 5, 5),
-        ("f", changed(20, 1), 7, 17),
+        ("f", spoiled(), 7, 17),
         ("g", one_body_byte(), 0, 0),
         ("h", with_ends(6, &[0, 0]), 0, 0),
         ("i, two letters", with_ends(7, b"AA\0"), 6, 21),
@@ -105,6 +110,31 @@ pub fn record_of(bytes: &[u8]) -> Vec<u8> {
     let mut record = [&(bytes.len() as u16).to_be_bytes(), bytes].concat();
     record.resize(512, 0);
     record
+}
+
+/// The same record, retired: the top bit of its stored length is set.
+pub fn retired(mut record: Vec<u8>) -> Vec<u8> {
+    record[0] |= 0x80;
+    record
+}
+
+/// A good record of this name, a type and a message number, retired or live.
+pub fn marked_record((message_type, number): (u16, u32), is_retired: bool) -> Vec<u8> {
+    let live = record_of(&named(message_type, number));
+    if is_retired {
+        retired(live)
+    } else {
+        live
+    }
+}
+
+/// Two and three records in every combination of three names, each retired or live.
+pub fn combinations() -> Vec<Vec<((u16, u32), bool)>> {
+    let kinds = [(6000, 1), (6000, 2), (6001, 1)].map(|name| [(name, false), (name, true)]).concat();
+    let one = |choice: usize| kinds[choice % kinds.len()];
+    let two = (0..36).map(|choice| vec![one(choice), one(choice / 6)]);
+    let three = (0..216).map(|choice| vec![one(choice), one(choice / 6), one(choice / 36)]);
+    two.chain(three).collect()
 }
 
 /// The file of the listing case: M in a record, then the same record with a stored length of 20.

@@ -3,7 +3,7 @@
 
 use crate::cases::from_hex;
 use crate::envelope::Kind;
-use crate::golden::{PREFIX, RECORD};
+use crate::golden::{Stored, RECORD};
 use std::ops::Range;
 
 /// Where the flags stand in a message.
@@ -25,18 +25,11 @@ fn record(message: &[u8]) -> Vec<u8> {
     record
 }
 
-/// Where the message of a record stands, by its stored length.
-fn message(file: &[u8], record: usize) -> Range<usize> {
-    let first = record * RECORD;
-    let length = usize::from(u16::from_be_bytes([file[first], file[first + 1]]));
-    first + PREFIX..first + PREFIX + length
-}
-
 /// Each bit of each message.
 pub fn each_bit(file: &[u8], mut seen: impl FnMut(&[u8])) {
     let mut file = file.to_vec();
     for record in 0..file.len() / RECORD {
-        let message = message(&file, record);
+        let message = Stored::of(&file, record).place;
         for bit in 0..8 * message.len() {
             flipped(&mut file, &message, &[bit], &mut seen);
         }
@@ -46,7 +39,7 @@ pub fn each_bit(file: &[u8], mut seen: impl FnMut(&[u8])) {
 /// Each pair of bits of the message of one record.
 pub fn each_pair(file: &[u8], record: usize, mut seen: impl FnMut(&[u8])) {
     let mut file = file.to_vec();
-    let message = message(&file, record);
+    let message = Stored::of(&file, record).place;
     for second in 0..8 * message.len() {
         for first in 0..second {
             flipped(&mut file, &message, &[first, second], &mut seen);

@@ -1,9 +1,14 @@
-//! Golden files: count, check, find, walk, compare, make and list.
+//! Golden files: count, check, find, walk, compare, make, list and retire.
 //! Each refusal stands in the order in which it is looked for.
+
+mod retiring;
+mod stored;
 
 use crate::crc::Sum;
 use crate::envelope::{self, Fields, Unread};
+pub use retiring::{retire, retired_records};
 use std::ops::Range;
+pub use stored::Stored;
 
 pub const RECORD: usize = 512;
 pub const MOST_RECORDS: usize = 128;
@@ -24,6 +29,9 @@ pub enum Refusal {
     TooLong,
     Message(Unread),
     Buffer,
+    AlreadyRetired,
+    CopyLength,
+    RecordRetired,
 }
 
 impl Refusal {
@@ -41,6 +49,9 @@ impl Refusal {
             Refusal::TooLong => (33, 0, 0),
             Refusal::Message(unread) => unread.passed_on(34),
             Refusal::Buffer => (35, 0, 0),
+            Refusal::AlreadyRetired => (36, 0, 0),
+            Refusal::CopyLength => (37, 0, 0),
+            Refusal::RecordRetired => (38, 0, 0),
         }
     }
 }
@@ -53,9 +64,10 @@ pub fn count(file: &[u8]) -> Result<usize, Refusal> {
     Ok(file.len() / RECORD)
 }
 
-/// A good record: where its message stands in the file, and what it says.
+/// A good record: where its message stands in the file, what it says, and whether it is retired or live.
 struct Opened {
     place: Range<usize>,
+    retired: bool,
     fields: Fields,
 }
 
@@ -72,18 +84,16 @@ fn open<S: Sum>(file: &[u8], record: usize) -> Result<Opened, Refusal> {
     if record >= count(file)? {
         return Err(Refusal::NoRecord);
     }
-    let first = record * RECORD;
-    let stored = &file[first..first + RECORD];
-    let length = usize::from(u16::from_be_bytes([stored[0], stored[1]]));
-    if !(envelope::SHORTEST..=LONGEST_MESSAGE).contains(&length) {
+    let Stored { place, retired } = Stored::of(file, record);
+    if !(envelope::SHORTEST..=LONGEST_MESSAGE).contains(&place.len()) {
         return Err(Refusal::StoredLength);
     }
-    let (message, after) = stored[PREFIX..].split_at(length);
+    let after = &file[place.end..(record + 1) * RECORD];
     if after.iter().any(|&byte| byte != 0) {
         return Err(Refusal::NotClear);
     }
-    let fields = envelope::read::<S>(message).map_err(Refusal::Record)?;
-    Ok(Opened { place: first + PREFIX..first + PREFIX + length, fields })
+    let fields = envelope::read::<S>(&file[place.clone()]).map_err(Refusal::Record)?;
+    Ok(Opened { place, retired, fields })
 }
 
 /// A refusal and the record it is about (0 where it is about the file).
@@ -93,19 +103,22 @@ pub struct Bad {
     pub refusal: Refusal,
 }
 
-/// The number of records if all are good and no two have one name, or the first that is bad or has the name of an
-/// earlier one.
+/// The number of records, retired ones too, if all are good and no two live ones have one name; or the first that is
+/// bad, or is live and has the name of an earlier live one.
 pub fn check<S: Sum>(file: &[u8]) -> Result<usize, Bad> {
     let count = count(file).map_err(|refusal| Bad { record: 0, refusal })?;
     let mut names: Vec<Name> = Vec::new();
     for record in 0..count {
         let bad = |refusal| Bad { record, refusal };
-        let name = open::<S>(file, record).map_err(bad)?.name();
-        // All records before this one are good, so that each of them has a name.
-        if names.contains(&name) {
+        let opened = open::<S>(file, record).map_err(bad)?;
+        // A retired record takes no name, and is not held against any.
+        if opened.retired {
+            continue;
+        }
+        if names.contains(&opened.name()) {
             return Err(bad(Refusal::NameTaken));
         }
-        names.push(name);
+        names.push(opened.name());
     }
     Ok(count)
 }
@@ -117,7 +130,8 @@ pub struct Search {
     pub answer: Result<usize, Refusal>,
 }
 
-/// Looks for the first message of this type and number; a bad record on the way ends the search.
+/// Looks for the first live record of this type and number. Good retired ones are passed over, and counted; a bad record
+/// on the way ends the search, marked or not.
 pub fn find<S: Sum>(file: &[u8], message_type: u16, number: u32) -> Search {
     let count = match count(file) {
         Ok(count) => count,
@@ -126,7 +140,7 @@ pub fn find<S: Sum>(file: &[u8], message_type: u16, number: u32) -> Search {
     for record in 0..count {
         let answer = match open::<S>(file, record) {
             Err(refusal) => Err(refusal),
-            Ok(Opened { fields, .. }) if fields.message_type == message_type && fields.number == number => Ok(record),
+            Ok(opened) if !opened.retired && opened.name() == (message_type, number) => Ok(record),
             Ok(_) => continue,
         };
         return Search { opened: record + 1, answer };
@@ -137,7 +151,7 @@ pub fn find<S: Sum>(file: &[u8], message_type: u16, number: u32) -> Search {
 /// One step of a walk.
 #[derive(Clone, Debug, PartialEq, Eq)]
 pub enum Step {
-    Message(Range<usize>),
+    Message { place: Range<usize>, retired: bool },
     Refused(Refusal),
     End,
 }
@@ -147,23 +161,27 @@ impl Step {
     pub fn advance(&self) -> usize {
         match self {
             Step::End | Step::Refused(Refusal::NotAFile) => 0,
-            Step::Message(_) | Step::Refused(_) => 1,
+            Step::Message { .. } | Step::Refused(_) => 1,
         }
     }
 }
 
 pub fn step<S: Sum>(file: &[u8], record: usize) -> Step {
     match open::<S>(file, record) {
-        Ok(opened) => Step::Message(opened.place),
+        Ok(Opened { place, retired, .. }) => Step::Message { place, retired },
         Err(Refusal::NoRecord) => Step::End,
         Err(refusal) => Step::Refused(refusal),
     }
 }
 
-/// Compares a record with a radio's message: the total of differing places, and as many of them as the list takes.
+/// Compares a live record with a radio's message: the total of differing places, and as many of them as the list takes.
 /// Both are accepted by then, so neither is a proper beginning of the other; the tests in `beginnings` show it.
 pub fn compare<S: Sum>(file: &[u8], record: usize, radio: &[u8], list: &mut [u32]) -> Result<usize, Refusal> {
-    let golden = &file[open::<S>(file, record)?.place];
+    let opened = open::<S>(file, record)?;
+    if opened.retired {
+        return Err(Refusal::RecordRetired);
+    }
+    let golden = &file[opened.place];
     envelope::read::<S>(radio).map_err(Refusal::Radio)?;
     let mut total = 0;
     for place in 0..golden.len().max(radio.len()) {
@@ -177,7 +195,7 @@ pub fn compare<S: Sum>(file: &[u8], record: usize, radio: &[u8], list: &mut [u32
     Ok(total)
 }
 
-/// Makes a record of a message.
+/// Makes a live record of a message: no length that a record holds reaches the mark.
 pub fn make<S: Sum>(message: &[u8], buffer: &mut [u8]) -> Result<(), Refusal> {
     if message.len() > LONGEST_MESSAGE {
         return Err(Refusal::TooLong);
@@ -197,68 +215,23 @@ pub struct Line {
     pub message_type: u16,
     pub number: u32,
     pub length: usize,
+    pub retired: bool,
 }
 
 pub fn line<S: Sum>(file: &[u8], record: usize) -> Result<Line, Refusal> {
-    let Opened { place, fields } = open::<S>(file, record)?;
-    Ok(Line { message_type: fields.message_type, number: fields.number, length: place.len() })
+    let Opened { place, retired, fields } = open::<S>(file, record)?;
+    Ok(Line { message_type: fields.message_type, number: fields.number, length: place.len(), retired })
 }
 
+#[cfg(test)]
+mod before;
 #[cfg(test)]
 mod beginnings;
 #[cfg(test)]
-mod names;
-
+mod marks;
 #[cfg(test)]
-mod tests {
-    use super::*;
-    use crate::cases;
-    use crate::crc::Division;
-    use crate::envelope::Unread;
-
-    #[test]
-    fn the_listed_file_is_judged_as_told() {
-        let file = cases::listed_file();
-        assert_eq!(count(&file), Ok(2));
-        assert_eq!(line::<Division>(&file, 0), Ok(Line { message_type: 6000, number: 1, length: 21 }));
-        assert_eq!(line::<Division>(&file, 1), Err(Refusal::StoredLength));
-        assert_eq!(line::<Division>(&file, 2), Err(Refusal::NoRecord));
-        assert_eq!(check::<Division>(&file), Err(Bad { record: 1, refusal: Refusal::StoredLength }));
-    }
-
-    #[test]
-    fn a_search_counts_what_it_opened() {
-        let file = cases::listed_file();
-        assert_eq!(find::<Division>(&file, 6000, 1), Search { opened: 1, answer: Ok(0) });
-        assert_eq!(find::<Division>(&file, 6000, 2), Search { opened: 2, answer: Err(Refusal::StoredLength) });
-        assert_eq!(find::<Division>(&file[..512], 6001, 1), Search { opened: 1, answer: Err(Refusal::NotFound) });
-        assert_eq!(find::<Division>(&file[1..], 6000, 1), Search { opened: 0, answer: Err(Refusal::NotAFile) });
-    }
-
-    #[test]
-    fn a_walk_ends_at_the_count_and_stays() {
-        let file = cases::listed_file();
-        assert_eq!(step::<Division>(&file, 0), Step::Message(2..23));
-        assert_eq!(step::<Division>(&file, 1).advance(), 1);
-        assert_eq!(step::<Division>(&file, usize::MAX).advance(), 0);
-        assert_eq!(step::<Division>(&file[1..], 0).advance(), 0);
-    }
-
-    #[test]
-    fn a_place_that_one_message_lacks_differs() {
-        let (file, radio) = (cases::listed_file(), cases::one_body_byte());
-        let mut list = [9; 4];
-        assert_eq!(compare::<Division>(&file, 0, &radio, &mut list), Ok(3));
-        assert_eq!(list, [7, 17, 21, 9]);
-        assert_eq!(compare::<Division>(&file, 0, &radio[1..], &mut list), Err(Refusal::Radio(Unread::HeaderVersion)));
-    }
-
-    #[test]
-    fn a_made_record_is_found_again() {
-        let mut record = [7; RECORD];
-        assert_eq!(make::<Division>(&cases::shortest(), &mut record), Ok(()));
-        assert_eq!(record, cases::listed_file()[..RECORD]);
-        assert_eq!(make::<Division>(&cases::shortest(), &mut record[1..]), Err(Refusal::Buffer));
-        assert_eq!(make::<Division>(&[4; 511], &mut record), Err(Refusal::TooLong));
-    }
-}
+mod names;
+#[cfg(test)]
+mod samples;
+#[cfg(test)]
+mod tests;

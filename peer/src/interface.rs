@@ -1,13 +1,21 @@
 //! The shapes of the C interface that both sides of a comparison speak.
 //! The archive gives them by itself; the peer is put into them by the mirror.
 
-/// An answer word, taken apart. Of a refusal by reading, or of one that passes it on, the value is the place.
+/// An answer word, taken apart. Of a refusal by reading, or of one that passes it on, the value is the place. Where a line
+/// or a step is done, the slot of reading tells whether the record is retired.
 #[derive(Clone, Copy, Debug, Default, PartialEq, Eq)]
 pub struct Answer {
     pub number: u8,
     pub reading: u8,
     pub count: u16,
     pub value: u32,
+}
+
+impl Answer {
+    /// The slot of reading by its other name: 1 of a retired record, 0 of a live one.
+    pub fn retired(self) -> u8 {
+        self.reading
+    }
 }
 
 pub const FIELDS: usize = 16;

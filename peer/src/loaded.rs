@@ -12,6 +12,7 @@ type LibdeflateCrc = unsafe extern "C" fn(u32, *const u8, usize) -> u32;
 type Crc = unsafe extern "C" fn(*const u8, usize) -> u32;
 type Read = unsafe extern "C" fn(*const u8, usize, *mut u64) -> u64;
 type Check = unsafe extern "C" fn(*const u8, usize) -> u64;
+type Find = unsafe extern "C" fn(*const u8, usize, u16, u32) -> u64;
 type Compare = unsafe extern "C" fn(*const u8, usize, usize, *const u8, usize, *mut u32, usize) -> u64;
 
 extern "C" {
@@ -79,11 +80,12 @@ pub struct Before {
     crc: Crc,
     read: Read,
     check: Check,
+    find: Find,
     compare: Compare,
 }
 
 impl Before {
-    pub fn find() -> Option<Before> {
+    pub fn load() -> Option<Before> {
         let name = env::var("MORLEWEN_BEFORE").ok()?;
         let name = CString::new(name).expect("the variable has no zero byte");
         let library = Library::find(&[&name]).expect("MORLEWEN_BEFORE names a shared library");
@@ -94,6 +96,7 @@ impl Before {
                 crc: mem::transmute::<*mut c_void, Crc>(symbol(c"morlewen_crc")),
                 read: mem::transmute::<*mut c_void, Read>(symbol(c"morlewen_read")),
                 check: mem::transmute::<*mut c_void, Check>(symbol(c"morlewen_check")),
+                find: mem::transmute::<*mut c_void, Find>(symbol(c"morlewen_find")),
                 compare: mem::transmute::<*mut c_void, Compare>(symbol(c"morlewen_compare")),
             })
         }
@@ -112,6 +115,11 @@ impl Before {
     pub fn check(self, file: &[u8]) -> Answer {
         // SAFETY: the pointer and the length are of one slice.
         unpack(unsafe { (self.check)(file.as_ptr(), file.len()) })
+    }
+
+    pub fn find(self, file: &[u8], message_type: u16, number: u32) -> Answer {
+        // SAFETY: the pointer and the length are of one slice.
+        unpack(unsafe { (self.find)(file.as_ptr(), file.len(), message_type, number) })
     }
 
     pub fn compare(self, file: &[u8], record: usize, radio: &[u8], places: &mut [u32]) -> Answer {

@@ -35,6 +35,11 @@ fn counted(count: usize) -> Answer {
     Answer { count: count as u16, ..Answer::default() }
 }
 
+/// What is done about a record, retired or live.
+fn done_of(retired: bool) -> Answer {
+    Answer { reading: retired.into(), ..Answer::default() }
+}
+
 fn golden_refused(refusal: Refusal) -> Answer {
     passed_on(refusal.numbers())
 }
@@ -170,6 +175,10 @@ pub fn records(file: &[u8]) -> Answer {
     golden::count(file).map_or_else(golden_refused, counted)
 }
 
+pub fn retired_records(file: &[u8]) -> Answer {
+    golden::retired_records::<Division>(file).map_or_else(golden_refused, counted)
+}
+
 pub fn check(file: &[u8]) -> Answer {
     match golden::check::<Division>(file) {
         Ok(count) => counted(count),
@@ -186,7 +195,7 @@ pub fn line(file: &[u8], record: usize, line: &mut [u64; LINE]) -> Answer {
     match golden::line::<Division>(file, record) {
         Ok(listed) => {
             *line = [listed.message_type.into(), listed.number.into(), listed.length as u64];
-            Answer::default()
+            done_of(listed.retired)
         }
         Err(refusal) => golden_refused(refusal),
     }
@@ -195,9 +204,9 @@ pub fn line(file: &[u8], record: usize, line: &mut [u64; LINE]) -> Answer {
 pub fn step(file: &[u8], record: usize, part: &mut [u64; PART]) -> Answer {
     let step = golden::step::<Division>(file, record);
     let answer = match &step {
-        Step::Message(place) => {
+        Step::Message { place, retired } => {
             *part = [place.start as u64, place.len() as u64];
-            done_with(place.len())
+            Answer { value: place.len() as u32, ..done_of(*retired) }
         }
         Step::Refused(refusal) => golden_refused(*refusal),
         Step::End => Answer::default(),
@@ -211,6 +220,10 @@ pub fn compare(file: &[u8], record: usize, radio: &[u8], places: &mut [u32]) -> 
 
 pub fn make(message: &[u8], buffer: &mut [u8]) -> Answer {
     golden::make::<Division>(message, buffer).map_or_else(golden_refused, |()| Answer::default())
+}
+
+pub fn retire(file: &[u8], record: usize, buffer: &mut [u8]) -> Answer {
+    golden::retire::<Division>(file, record, buffer).map_or_else(golden_refused, |()| Answer::default())
 }
 
 /// The feed that storage of any content is.

@@ -35,6 +35,7 @@ extern "C" {
     fn morlewen_judge(bytes: *const u8, length: usize, verdicts: *mut u8) -> u64;
     fn morlewen_judge_places(bytes: *const u8, length: usize, verdicts: *mut u8, places: *mut u64) -> u64;
     fn morlewen_records(file: *const u8, length: usize) -> u64;
+    fn morlewen_retired_records(file: *const u8, length: usize) -> u64;
     fn morlewen_check(file: *const u8, length: usize) -> u64;
     fn morlewen_find(file: *const u8, length: usize, message_type: u16, number: u32) -> u64;
     fn morlewen_line(file: *const u8, length: usize, record: usize, line: *mut u64) -> u64;
@@ -49,6 +50,7 @@ extern "C" {
         room: usize,
     ) -> u64;
     fn morlewen_make(message: *const u8, length: usize, buffer: *mut u8, room: usize) -> u64;
+    fn morlewen_retire(file: *const u8, length: usize, record: usize, buffer: *mut u8, room: usize) -> u64;
     fn morlewen_feed_take(kept: *mut u8, numbers: *mut u64, piece: *const u8, length: usize, fields: *mut u64) -> u64;
     fn morlewen_feed_end(numbers: *mut u64) -> u64;
     fn morlewen_feed_restart(kept: *mut u8, numbers: *mut u64);
@@ -146,6 +148,11 @@ pub fn records(file: &[u8]) -> Answer {
     unpack(unsafe { morlewen_records(file.as_ptr(), file.len()) })
 }
 
+pub fn retired_records(file: &[u8]) -> Answer {
+    // SAFETY: the pointer and the length are of one slice.
+    unpack(unsafe { morlewen_retired_records(file.as_ptr(), file.len()) })
+}
+
 pub fn check(file: &[u8]) -> Answer {
     // SAFETY: the pointer and the length are of one slice.
     unpack(unsafe { morlewen_check(file.as_ptr(), file.len()) })
@@ -184,6 +191,12 @@ pub fn compare(file: &[u8], record: usize, radio: &[u8], places: &mut [u32]) -> 
 pub fn make(message: &[u8], buffer: &mut [u8]) -> Answer {
     // SAFETY: each pointer stands with the length of its own slice.
     unpack(unsafe { morlewen_make(message.as_ptr(), message.len(), buffer.as_mut_ptr(), buffer.len()) })
+}
+
+pub fn retire(file: &[u8], record: usize, buffer: &mut [u8]) -> Answer {
+    let (room, buffer) = (buffer.len(), buffer.as_mut_ptr());
+    // SAFETY: each pointer stands with the length of its own slice, and the buffer is borrowed alone.
+    unpack(unsafe { morlewen_retire(file.as_ptr(), file.len(), record, buffer, room) })
 }
 
 pub fn feed_take(

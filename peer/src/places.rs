@@ -122,9 +122,11 @@ fn refusal_67_passes_the_place_on() {
 
 #[test]
 fn a_refusal_without_a_number_of_reading_has_place_0() {
+    use golden::Refusal::{AlreadyRetired, CopyLength, RecordRetired};
     use golden::Refusal::{Buffer, NameTaken, NoRecord, NotAFile, NotClear, NotFound, StoredLength, TooLong};
-    for refusal in [NotAFile, NoRecord, StoredLength, NotClear, NameTaken, NotFound, TooLong, Buffer] {
-        assert!(matches!(refusal.numbers(), (21..=35, 0, 0)), "{refusal:?}");
+    let without_reading = [NotAFile, NoRecord, StoredLength, NotClear, NameTaken, NotFound, TooLong, Buffer];
+    for refusal in without_reading.into_iter().chain([AlreadyRetired, CopyLength, RecordRetired]) {
+        assert!(matches!(refusal.numbers(), (21..=38, 0, 0)), "{refusal:?}");
     }
     use frame::Refusal::{Length, NoEtx, NoRoom, NoStx, TooShort, Type, Version};
     for refusal in [TooShort, NoStx, Version, Type, Length, NoEtx, NoRoom, frame::Refusal::TooLong] {

@@ -1,4 +1,4 @@
-// The commands about sums, messages, the judge, frames, QoS, lateness and sequence: each is one call of the library, and its answer is told by the row's template.
+// The commands about sums, messages, the judge, frames, QoS, lateness and sequence, and those that lend a buffer: each is one call of the library, and its answer is told by the row's template.
 // Rests on the crate `exports`.
 use crate::frame_lines::measured;
 use crate::frame_lines::unwrap_line;
@@ -6,6 +6,7 @@ use crate::numbers::BEGUN;
 use crate::numbers::CHOICE;
 use crate::numbers::END;
 use crate::numbers::LENT;
+use crate::numbers::USED;
 use crate::numbers::at;
 use crate::numbers::four_at;
 use crate::numbers::one_at;
@@ -23,6 +24,7 @@ use exports::envelopes::morlewen_write;
 use exports::frames::morlewen_acknowledge;
 use exports::frames::morlewen_wrap;
 use exports::goldens::morlewen_make;
+use exports::goldens::morlewen_retire;
 use exports::qos::morlewen_qos_join;
 use exports::qos::morlewen_qos_split;
 use exports::sums::morlewen_crc;
@@ -71,12 +73,18 @@ pub fn lent_line(code: u8, template: &[u8], numbers: &[u64; 16], memory: &[u8; M
 fn lent_answer(code: u8, numbers: &[u64; 16], memory: &[u8; MEMORY], lent: &mut [u8]) -> u64 {
     let message = between(memory, place_at(numbers, BEGUN), place_at(numbers, END));
     match code {
+        b'T' => morlewen_retire(file_in(numbers, memory), place_at(numbers, 0), lent),
         b'U' => morlewen_acknowledge(four_at(numbers, 0), four_at(numbers, 1), lent),
         b'V' => morlewen_wrap(message, four_at(numbers, 0), lent),
         b'W' => written(numbers, memory, lent),
         b'X' => morlewen_rewrite(message, lent),
         _ => morlewen_make(message, lent),
     }
+}
+
+// The golden file that is worked on.
+fn file_in<'a>(numbers: &[u64; 16], memory: &'a [u8; MEMORY]) -> &'a [u8] {
+    between(memory, 0, place_at(numbers, USED))
 }
 
 // So many bytes at the front of a buffer.

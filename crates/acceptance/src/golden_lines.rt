@@ -22,6 +22,7 @@ use exports::goldens::morlewen_compare;
 use exports::goldens::morlewen_find;
 use exports::goldens::morlewen_line;
 use exports::goldens::morlewen_records;
+use exports::goldens::morlewen_retired_records;
 use exports::goldens::morlewen_step;
 use std::num::wrapping_add_u64;
 use std::num::wrapping_add_usize;
@@ -45,6 +46,7 @@ fn golden_answer(code: u8, template: &[u8], numbers: &mut [u64; 16], file: &[u8]
         b'B' => morlewen_find(file, two_at(numbers, 0), four_at(numbers, 1)),
         b'C' => step(file, record, numbers),
         b'E' => entry(file, record, numbers),
+        b'G' => morlewen_retired_records(file),
         _ => each(code, template, file, numbers),
     }
 }

@@ -10,7 +10,7 @@ use crate::words::place_of;
 use libc::STDOUT_FILENO;
 use std::num::wrapping_add_usize;
 
-// The marks, where X and Y are letters that name a number, see `value_of`:
+// The marks, where X and Y are letters that name a number, or the answer's kind or mark, see `value_of`:
 // `#X` a number; `$X` its eight hex digits; `&XY` the bytes of the message from place X on, Y of them, in hex; `%` the message itself;
 // `!` the lent buffer; `~` what stands behind it, with no space in front; `?X12` the words from here on only where X is 1 or 2; `?` again always.
 pub fn say(template: &[u8], answer: u64, numbers: &[u64; 16], message: &[u8], lent: &[u8]) {
@@ -62,6 +62,7 @@ fn value_of(letter: u8, answer: u64, numbers: &[u64; 16]) -> u64 {
         b'c' => answer / 65_536 % 65_536,
         b'v' => answer / 4_294_967_296,
         b'k' => kind_of(answer),
+        b'm' => mark_of(answer),
         _ => at(numbers, slot(letter)),
     }
 }
@@ -78,6 +79,14 @@ pub fn kind_of(answer: u64) -> u64 {
         return 1;
     }
     0
+}
+
+// Where it is done: 1 of a retired record.
+fn mark_of(answer: u64) -> u64 {
+    if answer % 256 > 0 {
+        return 0;
+    }
+    answer / 256 % 256
 }
 
 // So many bytes from a place on.

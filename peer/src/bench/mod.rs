@@ -87,7 +87,7 @@ fn head(columns: &[Column]) {
 
 /// Work that is one call.
 fn calls() {
-    let before = Before::find();
+    let before = Before::load();
     let mut columns = COLUMNS.to_vec();
     if before.is_some() {
         columns.extend(COLUMNS_BEFORE);
@@ -109,6 +109,7 @@ fn calls() {
     }
     let file = works::full_file(8, LONGEST_MESSAGE, 256);
     works::checking("CRC, numbers 256 apart", LONGEST_MESSAGE, &file, before).measure(&columns);
+    works::finding("CRC", LONGEST_MESSAGE, &file, before).measure(&columns);
     works::comparing(&file, &works::message(8, LONGEST_MESSAGE, u32::MAX), before).measure(&columns);
 }
 

@@ -1,4 +1,4 @@
-//! Work that is one call: a sum, a message to read, a file to check, a record to compare.
+//! Work that is one call: a sum, a message to read, a file to check, a record to find, a record to compare.
 
 use super::{repeated, Row, Side, Work};
 use crate::interface::{Order, FIELDS};
@@ -66,6 +66,24 @@ pub fn checking<'a>(kind: &str, length: usize, file: &'a [u8], before: Option<Be
         sides.push((Side::Before, repeated(move || before.check(black_box(file)))));
     }
     Row { name: format!("checking {MOST_RECORDS} records of {length} bytes, {kind}"), sides }
+}
+
+/// The last record of a full file, so that every record is opened.
+pub fn finding<'a>(kind: &str, length: usize, file: &'a [u8], before: Option<Before>) -> Row<'a> {
+    let last = golden::line::<Table>(file, MOST_RECORDS - 1).expect("the file is full of good records");
+    let (message_type, number) = (last.message_type, last.number);
+    let found = ours::find(file, message_type, number);
+    assert_eq!((found.number, found.value as usize), (0, MOST_RECORDS - 1), "another record is found");
+    let mut sides: Vec<(Side, Work)> = vec![
+        (Side::Ours, repeated(move || ours::find(black_box(file), message_type, number))),
+        (Side::Table, repeated(move || golden::find::<Table>(black_box(file), message_type, number))),
+        (Side::Division, repeated(move || golden::find::<Division>(black_box(file), message_type, number))),
+    ];
+    if let Some(before) = before {
+        assert_eq!(before.find(file, message_type, number), found, "it was found differently before");
+        sides.push((Side::Before, repeated(move || before.find(black_box(file), message_type, number))));
+    }
+    Row { name: format!("finding the last of {MOST_RECORDS} records of {length} bytes, {kind}"), sides }
 }
 
 pub fn comparing<'a>(file: &'a [u8], radio: &'a [u8], before: Option<Before>) -> Row<'a> {

@@ -39,9 +39,18 @@ pub fn step(words: &mut Words, file: &[u8]) -> Answer {
     Ok(format!("{} next {}", stepped(&step), at + step.advance() as u64))
 }
 
+/// What stands behind a record that is retired, and nothing behind a live one.
+fn marked(retired: bool) -> &'static str {
+    if retired {
+        " retired"
+    } else {
+        ""
+    }
+}
+
 fn stepped(step: &Step) -> String {
     match step {
-        Step::Message(place) => format!("message {} {}", place.start, place.len()),
+        Step::Message { place, retired } => format!("message {} {}{}", place.start, place.len(), marked(*retired)),
         Step::Refused(refusal) => refused(*refusal),
         Step::End => "end".to_string(),
     }
@@ -83,6 +92,20 @@ pub fn make(words: &mut Words) -> Answer {
     Ok(format!("{answer} {}", buffer(&lent)))
 }
 
+pub fn retire(words: &mut Words, file: &[u8]) -> Answer {
+    let record = record(words, "record")?;
+    let mut lent = room(words)?;
+    words.end()?;
+    let done = golden::retire::<Division>(file, record, &mut lent);
+    let answer = done.map_or_else(refused, |()| "done".to_string());
+    Ok(format!("{answer} {}", buffer(&lent)))
+}
+
+pub fn retired(words: &mut Words, file: &[u8]) -> Answer {
+    words.end()?;
+    Ok(golden::retired_records::<Division>(file).map_or_else(refused, |count| format!("retired {count}")))
+}
+
 pub fn entry(words: &mut Words, file: &[u8]) -> Answer {
     let record = record(words, "at")?;
     words.end()?;
@@ -91,7 +114,7 @@ pub fn entry(words: &mut Words, file: &[u8]) -> Answer {
 
 fn entered(file: &[u8], record: usize) -> String {
     match golden::line::<Division>(file, record) {
-        Ok(line) => format!("{} {} {}", line.message_type, line.number, line.length),
+        Ok(line) => format!("{} {} {}{}", line.message_type, line.number, line.length, marked(line.retired)),
         Err(refusal) => refused(refusal),
     }
 }

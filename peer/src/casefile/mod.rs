@@ -33,7 +33,7 @@ struct Worked {
 
 type Command = fn(&mut Words, &mut Worked) -> Result<String, Complaint>;
 
-const COMMANDS: [(&str, Command); 27] = [
+const COMMANDS: [(&str, Command); 29] = [
     ("sum", |words, _| envelopes::sum(words)),
     ("read", |words, _| envelopes::read(words)),
     ("judge", |words, _| envelopes::judge(words)),
@@ -48,6 +48,8 @@ const COMMANDS: [(&str, Command); 27] = [
     ("walk", |words, worked| goldens::walk(words, &worked.file)),
     ("compare", |words, worked| goldens::compare(words, &worked.file)),
     ("make", |words, _| goldens::make(words)),
+    ("retire", |words, worked| goldens::retire(words, &worked.file)),
+    ("retired", |words, worked| goldens::retired(words, &worked.file)),
     ("entry", |words, worked| goldens::entry(words, &worked.file)),
     ("list", |words, worked| goldens::list(words, &worked.file)),
     ("edits", |words, worked| spoiled::edits(words, &mut worked.file)),

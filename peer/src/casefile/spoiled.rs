@@ -55,10 +55,10 @@ impl Spoiled<'_> {
 fn spoil(words: &mut Words, file: &mut [u8], told: &str, way: fn(&mut Spoiled)) -> Answer {
     let record = record(words, "record")?;
     words.end()?;
-    let Step::Message(message) = golden::step::<Division>(file, record) else {
+    let Step::Message { place, .. } = golden::step::<Division>(file, record) else {
         return Ok("no message".to_string());
     };
-    let mut spoiled = Spoiled { file, message, made: 0, refused: 0 };
+    let mut spoiled = Spoiled { file, message: place, made: 0, refused: 0 };
     way(&mut spoiled);
     Ok(format!("{told} {} refused {}", spoiled.made, spoiled.refused))
 }

@@ -234,6 +234,86 @@ fn a_name_that_comes_twice_is_told_by_check_alone() {
 }
 
 #[test]
+fn a_retired_record_is_told_by_each_line() {
+    let other = "0417700100000001 00000001 00*5 55 00*4";
+    each(&[
+        ("retired none:", "retired none: retired 0"),
+        (&format!("file record {M}"), "file: 512 bytes"),
+        (&format!("file record {other}"), "file: 1024 bytes"),
+        ("check two live:", "check two live: record 1 refused 26 0 0"),
+        ("retired of two live:", "retired of two live: retired 0"),
+        ("file change 0 80", "file: 1024 bytes"),
+        ("check it:", "check it: records 2"),
+        ("retired it:", "retired it: retired 1"),
+        ("find it: type 6000 number 1", "find it: record 1 opened 2"),
+        ("step it: at 0", "step it: message 2 21 retired next 1"),
+        ("step the live one: at 1", "step the live one: message 514 22 next 2"),
+        ("walk it:", "walk it: message 2 21 retired, message 514 22, end"),
+        ("entry it: at 0", "entry it: 6000 1 21 retired"),
+        ("list it:", "list it: records 2; 0 6000 1 21 retired; 1 6000 1 22"),
+        (&format!("compare it: record 0 list 9 with {M}"), "compare it: refused 38 0 0 list 9"),
+        ("compare 38 before 31: record 0 list 9 with", "compare 38 before 31: refused 38 0 0 list 9"),
+        ("flips it: record 0", "flips it: flipped 166 refused 75"),
+        ("file change 512 80", "file: 1024 bytes"),
+        ("find no live one: type 6000 number 1", "find no live one: refused 27 0 0 opened 2"),
+        ("walk both:", "walk both: message 2 21 retired, message 514 22 retired, end"),
+        ("retired both:", "retired both: retired 2"),
+        ("file change 513 14", "file: 1024 bytes"),
+        ("list a bad one:", "list a bad one: records 2; 0 6000 1 21 retired; 1 refused 23 0 0"),
+        ("retired a bad one:", "retired a bad one: retired 1"),
+        ("file zeros 1", "file: 1025 bytes"),
+        ("retired odd:", "retired odd: refused 21 0 0"),
+    ]);
+}
+
+#[test]
+fn a_record_is_retired_in_a_buffer() {
+    let copied = format!("8015041770010000000000000001{}0015041770010000000000000001 00*498", "00".repeat(498));
+    let far = u64::MAX;
+    each(&[
+        ("retire nothing: record 0 room 0", "retire nothing: refused 22 0 0 []"),
+        (&format!("file record {M}"), "file: 512 bytes"),
+        ("retire it: record 0 room 512", "retire it: done [8015041770010000000000000001 00*498]"),
+        ("retire short: record 0 room 511", "retire short: refused 37 0 0 [ee*511]"),
+        ("retire long: record 0 room 513", "retire long: refused 37 0 0 [ee*513]"),
+        ("retire none: record 0 room 0", "retire none: refused 37 0 0 []"),
+        ("retire no record: record 1 room 512", "retire no record: refused 22 0 0 [ee*512]"),
+        (&format!("retire far: record {far} room 3"), "retire far: refused 22 0 0 [ee*3]"),
+        ("retired it:", "retired it: retired 0"),
+        (&format!("file record {M}"), "file: 1024 bytes"),
+        ("retire first: record 0 room 1024", &format!("retire first: done [{copied}]")),
+        ("file change 512 80", "file: 1024 bytes"),
+        ("retire twice: record 1 room 1024", "retire twice: refused 36 0 0 [ee*1024]"),
+        ("retire 36 before 37: record 1 room 7", "retire 36 before 37: refused 36 0 0 [ee*7]"),
+        ("file change 534 01", "file: 1024 bytes"),
+        ("retire bad: record 1 room 1024", "retire bad: refused 25 7 17 [ee*1024]"),
+        ("file zeros 1", "file: 1025 bytes"),
+        ("retire odd: record 9 room 1", "retire odd: refused 21 0 0 [ee*1]"),
+    ]);
+}
+
+#[test]
+fn retire_lines_that_are_not_understood_are_told() {
+    let over = "a number from 0 to 18446744073709551615 expected";
+    each(&[
+        ("retire", "line 1, column 7: a name and a colon expected"),
+        ("retire r:", "line 2, column 10: the word record expected"),
+        ("retire r: at 0 room 512", "line 3, column 11: the word record expected"),
+        ("retire r: record room 512", &format!("line 4, column 18: {over}")),
+        ("retire r: record 18446744073709551616 room 1", &format!("line 5, column 18: {over}")),
+        ("retire r: record 0", "line 6, column 19: the word room expected"),
+        ("retire r: record 0 of 512", "line 7, column 20: the word room expected"),
+        ("retire r: record 0 room 1025", "line 8, column 25: a number from 0 to 1024 expected"),
+        ("retire r: record 0 room", "line 9, column 24: a number from 0 to 1024 expected"),
+        ("retire r: record 0 room 512 of 00", "line 10, column 29: the end of the line expected"),
+        ("retired", "line 11, column 8: a name and a colon expected"),
+        ("retired r: 0", "line 12, column 12: the end of the line expected"),
+        ("retires r:", "line 13, column 1: a command expected"),
+        ("Retired r:", "line 14, column 1: a command expected"),
+    ]);
+}
+
+#[test]
 fn comparisons_and_new_records_answer_as_told() {
     let radio = "0417700100000001 00000001 00*5 55 00*4";
     let stored = "0015041770010000000000000001 00*498";

@@ -1,22 +1,25 @@
 //! What is asked of both sides about golden files: counts, checks, walks, searches and comparisons.
-//! Beside each answer, what must hold between answers.
+//! Beside each answer, what must hold between answers. Retiring a record is asked about in `ask_retire`.
 
 use super::lent::{array, hex};
-use super::places;
 use super::run::Run;
 use super::tally::Operation;
+use super::{ask_retire, places};
 use crate::interface::{Answer, LINE, PART};
 use crate::{mirror, ours};
-use peer::golden::{PREFIX, RECORD};
+use peer::golden::{Stored, PREFIX, RECORD};
 
 /// Everything about one golden file, comparisons apart.
 pub fn file(run: &mut Run, file: &[u8]) {
     let shown = || format!("file {}", hex(file));
     let before = file.to_vec();
     let records = run.plain(Operation::Records, || ours::records(file), || mirror::records(file), &shown);
+    let retired = retired_records(run, file);
     let check = check(run, file);
     let walk = walk(run, file);
     run.holds("a walk goes as far as there are records", walk.count == records.count, &shown);
+    let met = Answer { count: walk.retired, ..records };
+    run.holds("a walk meets as many retired records as are counted", retired == met, &shown);
     let expected = walk.first_refused.unwrap_or(records);
     run.holds("a check answers what a walk meets first", check == expected, &shown);
     if check.number == 26 {
@@ -27,7 +30,13 @@ pub fn file(run: &mut Run, file: &[u8]) {
     for (message_type, number) in sought(run, file) {
         find(run, file, message_type, number);
     }
+    ask_retire::some(run, file);
     run.holds("a file lent to be read stays as it was", before == file, &shown);
+}
+
+pub fn retired_records(run: &mut Run, file: &[u8]) -> Answer {
+    let shown = || format!("file {}", hex(file));
+    run.plain(Operation::RetiredRecords, || ours::retired_records(file), || mirror::retired_records(file), &shown)
 }
 
 /// The check alone.
@@ -45,7 +54,7 @@ fn name_taken(run: &mut Run, file: &[u8], answer: Answer) {
     let cut = check(run, &file[..(record + 1) * RECORD]);
     run.holds("no record behind one refused by 26 is judged", cut == answer, &shown);
     let (line, told) = line(run, file, record);
-    run.holds("a record refused by 26 is good", line.number == 0, &shown);
+    run.holds("a record refused by 26 is good, and live", (line.number, line.retired()) == (0, 0), &shown);
     let found = find(run, file, told[0] as u16, told[1] as u32);
     let earlier = found.number == 0 && found.value < u32::from(answer.count);
     run.holds("with 26 a search for the name gives an earlier record", earlier, &shown);
@@ -57,15 +66,19 @@ type Name = [u64; 2];
 #[derive(Default)]
 struct Walk {
     count: u16,
-    /// Those of the good records so far.
+    retired: u16,
+    /// Those of the live records so far.
     names: Vec<Name>,
     /// The first refusal met, as a check answers it.
     first_refused: Option<Answer>,
 }
 
 impl Walk {
-    /// A bad record is refused as its step is, and a good one by 26 if its name was met before.
+    /// A bad record is refused as its step is, and a live one by 26 if its name was met before.
     fn meet(&mut self, step: Answer, name: Option<Name>) {
+        let is_retired = step.number == 0 && step.retired() != 0;
+        self.retired += u16::from(is_retired);
+        let name = name.filter(|_| !is_retired);
         let taken = name.is_some_and(|name| self.names.contains(&name));
         let refused = if taken { Answer { number: 26, ..Answer::default() } } else { step };
         if refused.number != 0 && self.first_refused.is_none() {
@@ -89,7 +102,7 @@ fn walk(run: &mut Run, file: &[u8]) -> Walk {
 }
 
 /// One record by a step and by a line, which must tell the same; of a good one the name as well.
-fn step_and_line(run: &mut Run, file: &[u8], record: usize) -> (Answer, Option<Name>) {
+pub fn step_and_line(run: &mut Run, file: &[u8], record: usize) -> (Answer, Option<Name>) {
     let shown = || format!("record {record}, file {}", hex(file));
     let (step, part) = run.beside(
         Operation::Step,
@@ -98,14 +111,16 @@ fn step_and_line(run: &mut Run, file: &[u8], record: usize) -> (Answer, Option<N
         |part| mirror::step(file, record, array(part)),
         &shown,
     );
-    let passed_on = step.number != 25 || places::passed_on(step, stored(file, record));
+    let passed_on = step.number != 25 || places::passed_on(step, &file[Stored::of(file, record).place]);
     run.holds("25 passes on what reading answers", passed_on, &shown);
     let (answer, line) = line(run, file, record);
     let same = match (step.number, step.value) {
-        (0, 0) => answer.number == 22,
+        (0, 0) => answer.number == 22 && step.retired() == 0,
         (0, size) => {
             let place = (record * RECORD + PREFIX) as u64;
-            answer.number == 0 && part.content() == [place, size.into()] && line[2] == u64::from(size)
+            let sized = part.content() == [place, size.into()] && line[2] == u64::from(size);
+            let mark = file[record * RECORD] >> 7;
+            answer.number == 0 && sized && [step, answer].map(Answer::retired) == [mark, mark]
         }
         _ => answer == Answer { count: 0, ..step },
     };
@@ -113,13 +128,7 @@ fn step_and_line(run: &mut Run, file: &[u8], record: usize) -> (Answer, Option<N
     (step, (answer.number == 0).then_some([line[0], line[1]]))
 }
 
-/// The message of a record that is there, by its stored length.
-fn stored(file: &[u8], record: usize) -> &[u8] {
-    let record = &file[record * RECORD..][..RECORD];
-    &record[PREFIX..][..usize::from(u16::from_be_bytes([record[0], record[1]]))]
-}
-
-fn line(run: &mut Run, file: &[u8], record: usize) -> (Answer, [u64; LINE]) {
+pub fn line(run: &mut Run, file: &[u8], record: usize) -> (Answer, [u64; LINE]) {
     let (answer, line) = run.beside(
         Operation::Line,
         LINE,
@@ -131,7 +140,7 @@ fn line(run: &mut Run, file: &[u8], record: usize) -> (Answer, [u64; LINE]) {
 }
 
 /// Types and numbers to look for: of some record, beside it, and any.
-fn sought(run: &mut Run, file: &[u8]) -> [(u16, u32); 3] {
+pub fn sought(run: &mut Run, file: &[u8]) -> [(u16, u32); 3] {
     let random = &mut run.random;
     let first = random.up_to(file.len() / RECORD) * RECORD + PREFIX;
     let Some(header) = file.get(first..first + 12) else { return [(0, 0), (6000, 1), (u16::MAX, u32::MAX)] };
@@ -150,9 +159,10 @@ pub fn find(run: &mut Run, file: &[u8], message_type: u16, number: u32) -> Answe
         &shown,
     );
     if answer.number == 0 {
-        let (_, line) = line(run, file, answer.value as usize);
+        let (told, line) = line(run, file, answer.value as usize);
         let found = [line[0], line[1]] == [message_type.into(), number.into()];
         run.holds("what is found has the type and number sought", found, &shown);
+        run.holds("what is found is live", (told.number, told.retired()) == (0, 0), &shown);
         run.holds("the record found is the last opened", answer.value + 1 == u32::from(answer.count), &shown);
     }
     if matches!(answer.number, 23..=25) {
@@ -163,8 +173,9 @@ pub fn find(run: &mut Run, file: &[u8], message_type: u16, number: u32) -> Answe
     answer
 }
 
-/// One record against one radio message, with lists of several rooms.
-pub fn comparison(run: &mut Run, file: &[u8], record: usize, radio: &[u8]) {
+/// One record against one radio message, with lists of several rooms, to all of which the answer is the same.
+pub fn comparison(run: &mut Run, file: &[u8], record: usize, radio: &[u8]) -> Answer {
+    let mut told = None;
     let rooms = [0, 1, run.random.between(2, 9), run.random.between(10, 700)];
     for room in rooms {
         let shown = || format!("room {room}, record {record}, radio {}, file {}", hex(radio), hex(file));
@@ -180,24 +191,29 @@ pub fn comparison(run: &mut Run, file: &[u8], record: usize, radio: &[u8]) {
         } else {
             let listed = &places.content()[..room.min(answer.value as usize)];
             run.holds("places ascend", listed.windows(2).all(|pair| pair[0] < pair[1]), &shown);
-            let stored = &file[record * RECORD + PREFIX..][..radio.len().min(RECORD - PREFIX)];
-            run.holds("the same are the same bytes", answer.value != 0 || stored == radio, &shown);
-            let length = u16::from_be_bytes([file[record * RECORD], file[record * RECORD + 1]]);
-            let behind = radio.len().abs_diff(length.into());
+            let Stored { place, retired } = Stored::of(file, record);
+            run.holds("a record that is compared is live", !retired, &shown);
+            run.holds("the same are the same bytes", answer.value != 0 || file[place.clone()] == *radio, &shown);
+            let behind = radio.len().abs_diff(place.len());
             let neither_begins = behind == 0 || answer.value as usize > behind;
             run.holds("neither message is a proper beginning of the other", neither_begins, &shown);
         }
+        run.holds("the room of a list changes no answer", *told.get_or_insert(answer) == answer, &shown);
     }
+    told.expect("several rooms were tried")
 }
 
-/// A comparison that is refused by the radio's message, or by the record as its line is.
+/// A comparison that is refused by the radio's message, for a retired record, or by the record as its line is.
 fn refused_comparison(run: &mut Run, file: &[u8], record: usize, radio: &[u8], answer: Answer) {
     let shown = || format!("record {record}, radio {}, file {}", hex(radio), hex(file));
-    if answer.number == 31 {
-        run.holds("31 passes on what reading answers", places::passed_on(answer, radio), &shown);
-    } else {
-        let (line, _) = line(run, file, record);
-        run.holds("a comparison that a record ends tells what its line does", answer == line, &shown);
+    let (line, _) = line(run, file, record);
+    match answer.number {
+        31 => {
+            run.holds("31 passes on what reading answers", places::passed_on(answer, radio), &shown);
+            run.holds("31 is about a live record", (line.number, line.retired()) == (0, 0), &shown);
+        }
+        38 => run.holds("38 is about a good record that is retired", (line.number, line.retired()) == (0, 1), &shown),
+        _ => run.holds("a comparison that a record ends tells what its line does", answer == line, &shown),
     }
 }
 
@@ -216,7 +232,10 @@ pub fn listing(
         let mut told = [0; LINE];
         let answer = line(file, record, &mut told);
         listing += &match answer.number {
-            0 => format!("{record} {} {} {}\n", told[0], told[1], told[2]),
+            0 => {
+                let mark = if answer.retired() == 0 { "" } else { " retired" };
+                format!("{record} {} {} {}{mark}\n", told[0], told[1], told[2])
+            }
             number => format!("{record} refused {number} {} {}\n", answer.reading, answer.value),
         };
     }

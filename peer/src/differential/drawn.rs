@@ -157,7 +157,7 @@ fn comparison(run: &mut Run) {
     let far = [records, MOST_RECORDS, 1 << 32, 1 << 55, usize::MAX];
     let record = if random.once_in(20) { random.pick(&far) } else { random.up_to(records - 1) };
     let stored = match golden::step::<Division>(&file, record) {
-        Step::Message(place) => file[place].to_vec(),
+        Step::Message { place, .. } => file[place].to_vec(),
         Step::Refused(_) | Step::End => inputs::message(random, LONGEST_MESSAGE),
     };
     let radio = match random.up_to(7) {

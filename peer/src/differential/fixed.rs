@@ -67,6 +67,8 @@ fn lettered_cases(run: &mut Run) {
     run.holds("a case has the answer told", parts == [0, 0, 0, 1, 0], &|| String::from("case m"));
     let file = cases::listed_file();
     listed(run, &file, cases::LISTING);
+    let both_marked: Vec<u8> = file.chunks(RECORD).flat_map(|record| cases::retired(record.to_vec())).collect();
+    listed(run, &both_marked, "records 2\n0 6000 1 21 retired\n1 refused 23 0 0\n");
     listed(run, &file[..RECORD + 1], "refused 21 0 0\n");
     listed(run, &[], "records 0\n");
 }

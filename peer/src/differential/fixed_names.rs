@@ -1,5 +1,6 @@
 //! The golden files that every run has for the names of their records: each with the answer of a check by hand.
-//! A name is a type and a message number, and a check refuses the later of two records with one name by 26.
+//! A name is a type and a message number, and a check refuses the later of two live records with one name by 26. All records
+//! here are live; `fixed_retired` has the others.
 
 use super::lent::hex;
 use super::run::Run;
@@ -17,21 +18,21 @@ pub fn short(run: &mut Run) {
 }
 
 /// So many records of type 6000, each with its own place for a number.
-fn numbered(count: usize) -> Vec<Vec<u8>> {
+pub fn numbered(count: usize) -> Vec<Vec<u8>> {
     (0..count).map(|number| record_of(&named(6000, number as u32))).collect()
 }
 
-fn passed(records: usize) -> Answer {
+pub fn passed(records: usize) -> Answer {
     Answer { count: records as u16, ..Answer::default() }
 }
 
 /// A refusal of this record that passes nothing on.
-fn refused(number: u8, record: usize) -> Answer {
+pub fn refused(number: u8, record: usize) -> Answer {
     Answer { number, ..passed(record) }
 }
 
 /// Asks all about the file of these records, whose check must answer so.
-fn checked(run: &mut Run, records: &[Vec<u8>], expected: Answer) {
+pub fn checked(run: &mut Run, records: &[Vec<u8>], expected: Answer) {
     run.input();
     let file = records.concat();
     ask_golden::file(run, &file);
@@ -39,7 +40,7 @@ fn checked(run: &mut Run, records: &[Vec<u8>], expected: Answer) {
 }
 
 /// The check alone.
-fn as_told(run: &mut Run, file: &[u8], expected: Answer) {
+pub fn as_told(run: &mut Run, file: &[u8], expected: Answer) {
     let answer = ask_golden::check(run, file);
     let shown = || format!("expected {expected:?}, file {}", hex(file));
     run.holds("a check of names answers as told", answer == expected, &shown);
@@ -112,7 +113,7 @@ fn one_bit_apart(run: &mut Run, message: &[u8], other: &[u8], two_names: bool) {
 }
 
 /// Records of M's name that 23, 24 and 25 refuse, 25 with each number that it can carry.
-fn bad_records() -> Vec<(Vec<u8>, Answer)> {
+pub fn bad_records() -> Vec<(Vec<u8>, Answer)> {
     let spoiled = |place: usize, byte: u8| {
         let mut record = record_of(&shortest());
         record[place] = byte;

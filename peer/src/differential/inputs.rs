@@ -254,7 +254,20 @@ fn orders(random: &mut Random, count: usize) -> Vec<Order> {
     orders
 }
 
-/// The file of these orders: all records good, or one or more of them bad.
+/// Sets the mark of some records, good or bad: in half of the files of none, else of one in so many, or of all.
+fn mark(random: &mut Random, file: &mut [u8]) {
+    if random.once_in(2) {
+        return;
+    }
+    let times = random.pick(&[1, 2, 3, 5]);
+    for record in file.chunks_mut(RECORD) {
+        if random.once_in(times) {
+            record[0] |= 0x80;
+        }
+    }
+}
+
+/// The file of these orders: all records good, or one or more of them bad; some of them marked as retired.
 fn file_of(random: &mut Random, orders: &[Order]) -> Vec<u8> {
     let bad = match random.up_to(3) {
         0 | 1 => 0,
@@ -266,10 +279,11 @@ fn file_of(random: &mut Random, orders: &[Order]) -> Vec<u8> {
     for (at, message) in orders.iter().map(written).enumerate() {
         file.extend(if bad.contains(&at) { bad_record(random, message) } else { record_of(message.len(), &message) });
     }
+    mark(random, &mut file);
     file
 }
 
-/// A file of so many records, whose good ones have a name each.
+/// A file of so many records, whose good ones have a name each, retired or live.
 pub fn file(random: &mut Random, records: usize) -> Vec<u8> {
     let orders = orders(random, records);
     file_of(random, &orders)

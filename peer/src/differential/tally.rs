@@ -21,12 +21,14 @@ pub enum Operation {
     Judge,
     JudgePlaces,
     Records,
+    RetiredRecords,
     Check,
     Find,
     Line,
     Step,
     Compare,
     Make,
+    Retire,
     FeedTake,
     FeedEnd,
     FeedRestart,
@@ -76,8 +78,11 @@ impl Outcome {
 /// What "done" amounts to, where an operation can be done in several ways.
 fn word(operation: Operation, answer: Answer) -> &'static str {
     match (operation, answer.value, answer.count) {
+        (Operation::RetiredRecords, _, 0) => "none",
+        (Operation::RetiredRecords, ..) => "some",
         (Operation::Step, 0, _) => "end",
-        (Operation::Step, ..) => "message",
+        (Operation::Step | Operation::Line, ..) if answer.retired() != 0 => "retired",
+        (Operation::Step | Operation::Line, ..) => "live",
         (Operation::Compare, 0, _) => "same",
         (Operation::Compare, ..) => "different",
         (Operation::FeedTake | Operation::FeedMessage, 0, _) => "nothing",
@@ -119,11 +124,14 @@ impl Tally {
         required().into_iter().filter(|key| !self.came.contains_key(key)).collect()
     }
 
-    /// The answers that came up and must not: no message is longer than a frame can state, and a check alone gives 26.
+    /// The answers that came up and must not: no message is longer than a frame can state, and of 26, 36, 37 and 38 each
+    /// is given by one operation alone.
     pub fn impossible(&self) -> Vec<(Operation, Outcome)> {
         let impossible = |operation, outcome| match outcome {
             Outcome::Refused(69) => true,
             Outcome::Refused(26) => operation != Operation::Check,
+            Outcome::Refused(36 | 37) => operation != Operation::Retire,
+            Outcome::Refused(38) => operation != Operation::Compare,
             _ => false,
         };
         self.came.keys().copied().filter(|&(operation, outcome)| impossible(operation, outcome)).collect()
@@ -133,11 +141,11 @@ impl Tally {
 /// The ways in which an operation must have been done, and the numbers by which it must have refused.
 type Required = (Operation, &'static [&'static str], &'static [u8]);
 
-const REQUIRED: [Required; 26] = {
+const REQUIRED: [Required; 28] = {
     use Operation::{Acknowledge, First, Unwrap, Wrap};
     use Operation::{Check, Compare, Crc, Distance, Find, Judge, JudgePlaces, Lateness, Line, Make};
     use Operation::{FeedEnd, FeedMessage, FeedRestart, FeedTake};
-    use Operation::{QosJoin, QosSplit, Read, Records, Rewrite, Sequence, Step, Write};
+    use Operation::{QosJoin, QosSplit, Read, Records, Retire, RetiredRecords, Rewrite, Sequence, Step, Write};
     [
         (Crc, &["done"], &[]),
         (Read, &["done"], &[1, 2, 3, 4, 5, 6, 7]),
@@ -151,12 +159,14 @@ const REQUIRED: [Required; 26] = {
         (Judge, &["none broken"], &[]),
         (JudgePlaces, &["none broken"], &[]),
         (Records, &["done"], &[21]),
+        (RetiredRecords, &["none", "some"], &[21]),
         (Check, &["done"], &[21, 23, 24, 25, 26]),
         (Find, &["done"], &[21, 23, 24, 25, 27]),
-        (Line, &["done"], &[21, 22, 23, 24, 25]),
-        (Step, &["message", "end"], &[21, 23, 24, 25]),
-        (Compare, &["same", "different"], &[21, 22, 23, 24, 25, 31]),
+        (Line, &["live", "retired"], &[21, 22, 23, 24, 25]),
+        (Step, &["live", "retired", "end"], &[21, 23, 24, 25]),
+        (Compare, &["same", "different"], &[21, 22, 23, 24, 25, 31, 38]),
         (Make, &["done"], &[33, 34, 35]),
+        (Retire, &["done"], &[21, 22, 23, 24, 25, 36, 37]),
         (FeedTake, &["nothing", "message"], &[1, 2, 3, 4, 5, 6, 7, 51, 52]),
         (FeedEnd, &["done"], &[1, 2, 3, 4, 5, 6, 7, 51, 52]),
         (FeedRestart, &["done"], &[]),

@@ -36,20 +36,22 @@ pub fn unusual(random: &mut Random) -> Vec<String> {
     lines
 }
 
-/// Each kind once, in turn with addresses and without.
+/// Each kind once, in turn with addresses and without; one of the three has 510 bytes.
 pub fn good_reads(random: &mut Random) -> Vec<String> {
     let mut lines = Vec::new();
     let mut addressed = random.once_in(2);
-    for kind in KINDS {
-        let message = Sketch::draw(random, kind, addressed).message();
+    let longest = random.pick(&[0, 1, 2]);
+    for (place, kind) in KINDS.into_iter().enumerate() {
+        let mut sketch = Sketch::draw(random, kind, addressed);
+        if place == longest {
+            let size = LONGEST_MESSAGE - (sketch.length() - sketch.body.len());
+            sketch.body = random.bytes(size);
+        }
         let told = if addressed { "addressed" } else { "unaddressed" };
-        lines.push(format!("read good, {}, {told}: {}", kind_name(kind), spelled(random, &message)));
+        let size = if place == longest { ", 510 bytes" } else { "" };
+        lines.push(format!("read good, {}, {told}{size}: {}", kind_name(kind), spelled(random, &sketch.message())));
         addressed = !addressed;
     }
-    let mut longest = Sketch::any(random);
-    let size = LONGEST_MESSAGE - (longest.length() - longest.body.len());
-    longest.body = random.bytes(size);
-    lines.push(format!("read good, 510 bytes: {}", spelled(random, &longest.message())));
     lines
 }
 

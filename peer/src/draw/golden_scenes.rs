@@ -4,65 +4,76 @@ use super::damage::{damaged, DAMAGES};
 use super::sketch::{seal, Sketch};
 use super::some;
 use super::spelled::spelled;
-use crate::envelope::{Kind, COMMON, FIELD};
-use crate::golden::{LONGEST_MESSAGE, PREFIX, RECORD};
+use crate::envelope::Kind;
+use crate::golden::{LONGEST_MESSAGE, RECORD};
 use crate::random::Random;
 
-type Scene = Vec<String>;
+pub type Scene = Vec<String>;
 
-fn record_line(random: &mut Random, message: &[u8]) -> String {
+/// The bit of a stored length that marks a retired record.
+pub const MARK: usize = 0x8000;
+
+pub fn record_line(random: &mut Random, message: &[u8]) -> String {
     format!("file record {}", spelled(random, message))
 }
 
+/// A record that stores this length, whatever the message's is.
+fn stored_line(random: &mut Random, stored: usize, message: &[u8]) -> String {
+    format!("file bytes {stored:04x} {} 00*{}", spelled(random, message), LONGEST_MESSAGE - message.len())
+}
+
+fn retired_line(random: &mut Random, message: &[u8]) -> String {
+    stored_line(random, MARK | message.len(), message)
+}
+
+/// The mark, now and then.
+fn any_mark(random: &mut Random) -> usize {
+    if random.once_in(3) {
+        MARK
+    } else {
+        0
+    }
+}
+
 /// What a `find` of this sketch's message is asked with.
-fn sought(sketch: &Sketch) -> String {
+pub fn sought(sketch: &Sketch) -> String {
     format!("type {} number {}", sketch.message_type, sketch.number)
 }
 
-/// Three good records, the last of them short, and everything asked about them.
+/// Three good records, the last of them short and one of them retired, and everything asked about them.
 pub fn good_file(random: &mut Random) -> Scene {
     let mut sketches = [Sketch::draw(random, Kind::Crc, true), Sketch::any(random), Sketch::short(random)];
     let number = random.number();
     for (sketch, place) in sketches.iter_mut().zip(0..) {
         sketch.number = number.wrapping_add(place);
     }
-    let mut scene = vec!["file new".to_string()];
-    scene.extend(sketches.iter().map(|sketch| record_line(random, &sketch.message())));
     let (at, past) = (random.up_to(2), random.pick(&[3, 4, 128, u64::MAX]));
+    let retired = (at + random.between(1, 2)) % 3;
+    let mut scene = vec!["file new".to_string()];
+    for (place, sketch) in sketches.iter().enumerate() {
+        let line = if place == retired { retired_line } else { record_line };
+        scene.push(line(random, &sketch.message()));
+    }
+    let not_there = format!("type {} number {}", sketches[at].message_type, number.wrapping_sub(1));
+    let not_found = vec![
+        format!("find what is not there: {not_there}"),
+        format!("find what is retired: {}", sought(&sketches[retired])),
+    ];
+    let whole = vec!["walk three good records:".to_string(), "list three good records:".to_string()];
     scene.extend([
         "check three good records:".to_string(),
         format!("find record {at} of three: {}", sought(&sketches[at])),
-        format!("find what is not there: type {} number {}", sketches[at].message_type, number.wrapping_sub(1)),
-        format!("step at record {at} of three: at {at}"),
+        format!("step at the retired one of three: at {retired}"),
         format!("step past the last: at {past}"),
-        "walk three good records:".to_string(),
         format!("entry of record {at}: at {at}"),
         format!("entry of no record: at {past}"),
-        "list three good records:".to_string(),
         "edits of a message with a CRC: record 0".to_string(),
         format!("flips of message {at}: record {at}"),
         "pairs of a short message: record 2".to_string(),
     ]);
+    scene.extend(some(random, 1, not_found));
+    scene.extend(some(random, 1, whole));
     scene.extend(comparisons(random, at, &sketches[at].message()));
-    scene.extend(doubled(random, &sketches[at]));
-    scene
-}
-
-/// A fourth record with the name of one of the three: a check refuses it, and all else goes on as before.
-fn doubled(random: &mut Random, earlier: &Sketch) -> Scene {
-    let mut later = if random.once_in(4) { earlier.clone() } else { Sketch::any(random) };
-    (later.message_type, later.number) = (earlier.message_type, earlier.number);
-    let others = vec![
-        format!("find a name that comes twice: {}", sought(earlier)),
-        "step at the later of two: at 3".to_string(),
-        "walk a name that comes twice:".to_string(),
-        "entry of the later of two: at 3".to_string(),
-        "list a name that comes twice:".to_string(),
-        "flips of the later of two: record 3".to_string(),
-        format!("compare the later of two: record 3 list 5*9 with {}", spelled(random, &earlier.message())),
-    ];
-    let mut scene = vec![record_line(random, &later.message()), "check a name that comes twice:".to_string()];
-    scene.extend(some(random, 1, others));
     scene
 }
 
@@ -99,8 +110,8 @@ fn changed(random: &mut Random, golden: &[u8]) -> (Vec<u8>, usize) {
     (message, places)
 }
 
-/// A way for the second of three records to be bad: what it is called, and the lines that make it up.
-fn bad_record(random: &mut Random, refusal: u8, first: &Sketch) -> (String, Scene) {
+/// A way for the second of three records to be bad: what it is called, and the line that makes it up.
+fn bad_record(random: &mut Random, refusal: u8, first: &Sketch) -> (String, String) {
     let mut sketch = Sketch::any(random);
     // It is refused for being bad, also where it has the name of the first.
     if random.once_in(2) {
@@ -108,41 +119,44 @@ fn bad_record(random: &mut Random, refusal: u8, first: &Sketch) -> (String, Scen
     }
     // Some room is left in the record behind the message.
     sketch.body.truncate(40);
-    let mut scene = vec![record_line(random, &sketch.message())];
-    match refusal {
+    let mut message = sketch.message();
+    let (name, stored) = match refusal {
         23 => {
-            let stored: u16 = random.pick(&[0, 1, 20, 511, 512, 0x1500, 0xFFFF]);
-            scene.push(format!("file change {RECORD} {stored:04x}"));
-            (format!("stored length {stored}"), scene)
+            let stored = random.pick(&[0, 1, 20, 511, 512, 0x1500, 0x7FFF]);
+            (format!("stored length {stored}"), stored)
         }
         24 => {
-            let (after, last) = (RECORD + PREFIX + sketch.length(), 2 * RECORD - 1);
-            let place = random.between(after, last);
-            let place = random.pick(&[after, place, last]);
-            scene.push(format!("file change {place} {:02x}", random.between(1, 255)));
-            ("a byte after the message".to_string(), scene)
+            let (stored, any) = (message.len(), random.between(message.len(), LONGEST_MESSAGE - 1));
+            let place = random.pick(&[stored, any, LONGEST_MESSAGE - 1]);
+            message.resize(place, 0);
+            message.push(random.between(1, 255) as u8);
+            ("a byte after the message".to_string(), stored)
         }
         _ => {
             let damage = random.pick(&DAMAGES[1..]);
-            let mut bad = damaged(random, damage);
-            while bad.len() > LONGEST_MESSAGE {
-                bad = damaged(random, damage);
+            message = damaged(random, damage);
+            while message.len() > LONGEST_MESSAGE {
+                message = damaged(random, damage);
             }
-            (damage.name().to_string(), vec![record_line(random, &bad)])
+            (damage.name().to_string(), message.len())
         }
-    }
+    };
+    // It is as bad with the mark.
+    let mark = any_mark(random);
+    (name, stored_line(random, mark | stored, &message))
 }
 
-/// A good record, one that is refused with this number, and a good one. Of 24 and 25 one is asked more about.
+/// A live record, one that is refused with this number, and a good one. Of 24 and 25 one is asked more about.
 fn bad_file(random: &mut Random, refusal: u8, more: u8) -> Scene {
     let mut first = Sketch::any(random);
     first.number = first.number.max(1);
     let mut last = Sketch::any(random);
     last.number = first.number - 1;
     let (name, bad) = bad_record(random, refusal, &first);
-    let mut scene = vec!["file new".to_string(), record_line(random, &first.message())];
-    scene.extend(bad);
-    scene.push(record_line(random, &last.message()));
+    let mut scene = vec!["file new".to_string(), record_line(random, &first.message()), bad];
+    // Of 23 the walk and the listing always meet a retired record.
+    let mark = if refusal == 23 { MARK } else { any_mark(random) };
+    scene.push(stored_line(random, mark | last.length(), &last.message()));
     scene.extend([
         format!("check {name}:"),
         format!("find behind {name}: {}", sought(&last)),
@@ -170,11 +184,15 @@ pub fn odd_file(random: &mut Random) -> Scene {
     let (size, at) = (random.between(1, RECORD - 1), random.up_to(5));
     let few = random.up_to(size.min(8));
     let bytes = random.bytes(few);
-    vec![
+    let others = vec![
+        format!("{} in an odd length: record 0", random.pick(&["edits", "flips", "pairs"])),
+        "retired in an odd length:".to_string(),
+        format!("retire in an odd length: record {at} room {}", random.up_to(9)),
+    ];
+    let mut scene = vec![
         "file new".to_string(),
         record_line(random, &sketch.message()),
-        format!("file bytes {}", spelled(random, &bytes)),
-        format!("file zeros {}", size - bytes.len()),
+        format!("file bytes {} 00*{}", spelled(random, &bytes), size - bytes.len()),
         "check an odd length:".to_string(),
         format!("find in an odd length: {}", sought(&sketch)),
         format!("step at {at} in an odd length: at {at}"),
@@ -182,8 +200,9 @@ pub fn odd_file(random: &mut Random) -> Scene {
         format!("entry {at} in an odd length: at {at}"),
         "list an odd length:".to_string(),
         format!("compare in an odd length: record 0 list 8*2 with {}", spelled(random, &sketch.message())),
-        format!("{} in an odd length: record 0", random.pick(&["edits", "flips", "pairs"])),
-    ]
+    ];
+    scene.extend(some(random, 1, others));
+    scene
 }
 
 /// A file of 128 records or of 129 is asked about, and then there is no room for another.
@@ -211,31 +230,17 @@ pub fn empty_file(random: &mut Random) -> Scene {
         format!("find in an empty file: {}", sought(&sketch)),
         "walk an empty file:".to_string(),
         "list an empty file:".to_string(),
-        "edits in an empty file: record 0".to_string(),
     ];
     let others = vec![
+        "edits in an empty file: record 0".to_string(),
+        "retired in an empty file:".to_string(),
+        format!("retire in an empty file: record 0 room {}", random.up_to(2)),
         format!("step in an empty file: at {}", random.up_to(2)),
         "entry in an empty file: at 0".to_string(),
         format!("compare in an empty file: record 0 list 4 with {}", spelled(random, &sketch.message())),
     ];
     scene.extend(some(random, 1, others));
     scene
-}
-
-/// A record that is damaged in its place and mended again.
-pub fn mended_file(random: &mut Random) -> Scene {
-    let message = Sketch::draw(random, Kind::Crc, true).message();
-    let place = random.between(COMMON, message.len() - FIELD - 1);
-    let bad = message[place] ^ random.between(1, 255) as u8;
-    let change = |byte: u8| format!("file change {} {byte:02x}", PREFIX + place);
-    vec![
-        "file new".to_string(),
-        record_line(random, &message),
-        change(bad),
-        format!("check with byte {place} damaged:"),
-        change(message[place]),
-        format!("check with byte {place} mended:"),
-    ]
 }
 
 /// The scene of a record of each refusal.

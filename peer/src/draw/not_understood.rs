@@ -12,12 +12,15 @@ pub fn comments(random: &mut Random) -> Vec<String> {
 
 pub fn commands_and_names(random: &mut Random) -> Vec<String> {
     let spaces = " ".repeat(random.up_to(3));
-    let command = random.pick(&["sum", "read", "judge", "unwrap", "walk", "check", "list"]);
-    vec![
-        format!("{spaces}{} no such command: 00", random.pick(&["reed", "Sum", "checks", "wal", "files", "0"])),
+    let command = random.pick(&["sum", "read", "judge", "unwrap", "walk", "check", "list", "retire", "retired"]);
+    let no_command = random.pick(&["reed", "Sum", "checks", "wal", "files", "0", "retir", "retires"]);
+    let names = vec![
         format!("{spaces}{command} a name without its colon"),
         format!("{spaces}{command}{spaces} : spaces for a name"),
-    ]
+    ];
+    let mut lines = vec![format!("{spaces}{no_command} no such command: 00")];
+    lines.extend(some(random, 1, names));
+    lines
 }
 
 pub fn words(random: &mut Random) -> Vec<String> {
@@ -36,6 +39,8 @@ pub fn words(random: &mut Random) -> Vec<String> {
         format!("late the clock before the entry: ttl 1 clock {number} entry 1"),
         format!("late nothing behind the entry: unaddressed entry {number}{spaces}"),
         format!("wrap no COMMID: room 600 of {number}"),
+        format!("retire no record: {other} 0 room 512"),
+        format!("retire no room: record {number}{spaces}"),
         format!("acknowledge the room before the other COMMID: commid {number} room 17 of 1"),
     ];
     lines.extend(some(random, 1, others));
@@ -71,10 +76,12 @@ pub fn numbers(random: &mut Random) -> Vec<String> {
         format!("file zeros {}", 66_561 + over),
         format!("file change {} 00", 66_561 + over),
         format!("compare a bad list: record 0 list 1 {list} with 00"),
+        format!("retire not a number that fits: record {} room 512", not_a_number(random)),
+        format!("retire a room too large: record 0 room {}", 1_025 + over),
         format!("wrap a COMMID too large: commid 429496729{} room 34 of 00", random.between(6, 9)),
         format!("acknowledge a room too large: commid 1 of 2 room {}", 1_025 + over),
     ];
-    lines.extend(some(random, 3, others));
+    lines.extend(some(random, 2, others));
     lines
 }
 
@@ -102,7 +109,7 @@ pub fn bytes(random: &mut Random) -> Vec<String> {
 }
 
 pub fn left_over(random: &mut Random) -> Vec<String> {
-    let command = random.pick(&["check", "walk", "list", "restart", "end"]);
+    let command = random.pick(&["check", "walk", "list", "retired", "restart", "end"]);
     let word = random.pick(&["now", "0", "#", ":"]);
     let lines = vec![
         format!("{command} a word left over:  {word}"),
@@ -110,6 +117,7 @@ pub fn left_over(random: &mut Random) -> Vec<String> {
         format!("late a word behind the clock: ttl 1 entry 2 clock 3 {word}"),
         format!("file new {word}"),
         format!("flips two records: record 0 {word}"),
+        format!("retire a word behind the room: record 0 room 512 {word}"),
         format!("acknowledge a word behind the room: commid 1 of 2 room 17 {word}"),
     ];
     some(random, 1, lines)

@@ -1,20 +1,13 @@
 //! The sentences of change request K4: a check refuses the later of two records with one name, a type and a message number.
-//! Find, walk, compare and listing stay as they are.
+//! Find, walk, compare and listing stay as they are. All records here are live; K7 leaves the retired ones out.
 
 use super::*;
-use crate::cases::{named, one_body_byte, record_of, shortest, with_ends};
+use crate::cases::{named, one_body_byte, record_of, shortest, spoiled, with_ends};
 use crate::crc::Division;
 use crate::flips;
 
-/// M with a field of 1.
-fn spoiled() -> Vec<u8> {
-    let mut message = shortest();
-    message[20] = 1;
-    message
-}
-
 /// For each of 23, 24 and 25 a record of M's name that it refuses.
-fn bad_records() -> [(Vec<u8>, Refusal); 3] {
+pub fn bad_records() -> [(Vec<u8>, Refusal); 3] {
     let (mut length, mut not_clear) = (record_of(&shortest()), record_of(&shortest()));
     (length[1], not_clear[RECORD - 1]) = (20, 1);
     let field = Refusal::Record(envelope::Unread::Integrity { place: 17 });
@@ -159,9 +152,9 @@ fn find_walk_compare_and_listing_stay_as_they_are() {
     assert_eq!(check::<Division>(&file), taken(2));
     assert_eq!(find::<Division>(&file, 6000, 1), Search { opened: 2, answer: Ok(1) });
     assert_eq!(find::<Division>(&file, 6000, 3), Search { opened: 3, answer: Err(Refusal::NotFound) });
-    assert_eq!(step::<Division>(&file, 2), Step::Message(1026..1048));
+    assert_eq!(step::<Division>(&file, 2), Step::Message { place: 1026..1048, retired: false });
     assert_eq!(step::<Division>(&file, 3), Step::End);
-    assert_eq!(line::<Division>(&file, 2), Ok(Line { message_type: 6000, number: 1, length: 22 }));
+    assert_eq!(line::<Division>(&file, 2), Ok(Line { message_type: 6000, number: 1, length: 22, retired: false }));
     assert_eq!(compare::<Division>(&file, 2, &later, &mut []), Ok(0));
     assert_eq!(compare::<Division>(&file, 2, &shortest(), &mut []), Ok(3));
 }
