@@ -43,6 +43,7 @@ extern "C" {
 
 static inline unsigned morlewen_number(uint64_t answer) { return (unsigned)(answer & 0xff); }
 static inline unsigned morlewen_reading(uint64_t answer) { return (unsigned)(answer >> 8 & 0xff); }
+/* Of an answer of morlewen_line or morlewen_step, and of no other. */
 static inline int morlewen_is_retired(uint64_t answer) { return (answer & 0xffff) == 0x100; }
 static inline unsigned morlewen_count(uint64_t answer) { return (unsigned)(answer >> 16 & 0xffff); }
 static inline uint32_t morlewen_value(uint64_t answer) { return (uint32_t)(answer >> 32); }
@@ -81,7 +82,7 @@ enum {
     MORLEWEN_MESSAGE_REFUSED = 34,       /* reading refuses that message; `reading` says why, `value` where */
     MORLEWEN_WRONG_BUFFER = 35,          /* the buffer for a record is not 512 bytes */
     MORLEWEN_ALREADY_RETIRED = 36,       /* the record to be retired is retired */
-    MORLEWEN_WRONG_COPY = 37,            /* the buffer for the copy is not as long as the file */
+    MORLEWEN_WRONG_COPY = 37,            /* the buffer for the copy has another length than the file, shorter or longer */
     MORLEWEN_RECORD_RETIRED = 38,        /* the record to be compared is retired; morlewen_compare gives it after 25 and before 31 */
     /* QoS */
     MORLEWEN_QOS_DOES_NOT_FIT = 41,      /* one of the five numbers does not fit its bits */
@@ -261,7 +262,7 @@ uint64_t morlewen_compare(const uint8_t *file, size_t length, size_t record, con
 uint64_t morlewen_make(const uint8_t *message, size_t length, uint8_t *buffer, size_t room);
 
 /* Retires a record: the file goes into the buffer with the top bit of that record's stored length set, and no other byte
- * different. The buffer has just the file's length. Refused: 21 to 25 for that record, then 36, then 37. */
+ * different. The buffer must have the file's length, no less and no more. Refused: 21 to 25 for that record, then 36, then 37. */
 uint64_t morlewen_retire(const uint8_t *file, size_t length, size_t record, uint8_t *buffer, size_t room);
 
 /* ---- Messages as they arrive ----
