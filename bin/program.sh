@@ -77,12 +77,13 @@ start_ready() {
 }
 
 # What proves one crate, as a group of processes of its own. Two checks at a time look at the same crates below them, and one may find the
-# other's notes half written: so a check that fails is tried once more, and what is proved by then stays proved.
+# other's notes half written: so a check that fails is tried once more, by itself, and what is proved by then stays proved.
 prove='
 trap ": >\"$3/$2.failed\"" EXIT
 cd "$1" || exit
-check() { RT_JOBS=1 rt check "$1" >"$2/$1.log" 2>&1; }
-if check "$2" "$3" || check "$2" "$3"; then trap - EXIT; : >"$3/$2.done"; fi'
+check() { RT_JOBS=1 flock "$3" target/checks rt check "$1" >"$2/$1.log" 2>&1; }
+mkdir -p target
+if check "$2" "$3" --shared || check "$2" "$3" --exclusive; then trap - EXIT; : >"$3/$2.done"; fi'
 
 finish_done() {
     for crate in $running; do
