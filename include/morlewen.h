@@ -49,9 +49,10 @@ static inline unsigned morlewen_count(uint64_t answer) { return (unsigned)(answe
 static inline uint32_t morlewen_value(uint64_t answer) { return (uint32_t)(answer >> 32); }
 
 /* The refusals. Where several apply to one message, record or frame, the one that stands first here is given; but 38 comes before
- * 31, and a feed gives the one that its bytes settle first. Of the records that morlewen_check and morlewen_find open, in order, the
- * first that is refused decides; morlewen_find stops at a match too. morlewen_line, morlewen_step, morlewen_compare and
- * morlewen_retire open the one that they are asked for. morlewen_retired_records opens all, and none decides. */
+ * 31, and a feed gives the one that its bytes settle first. Of the records that morlewen_check, morlewen_find,
+ * morlewen_find_by_halving and morlewen_ascending open the first that is refused decides; the two finds end at a match too, and
+ * morlewen_ascending where the order breaks. morlewen_line, morlewen_step, morlewen_compare and morlewen_retire open the one
+ * that they are asked for. morlewen_retired_records opens all, and none decides. */
 enum {
     MORLEWEN_DONE = 0,
     /* reading a message; each has a place */
@@ -75,7 +76,7 @@ enum {
     MORLEWEN_NOT_CLEAR = 24,             /* a byte after the message is not zero */
     MORLEWEN_RECORD_REFUSED = 25,        /* reading refuses the record's message; `reading` says why, `value` where */
     MORLEWEN_NAME_TAKEN = 26,            /* the record is live, and an earlier live one has its type and number; morlewen_check alone gives it */
-    MORLEWEN_NOT_FOUND = 27,             /* every record is good, and no live one has that type and number */
+    MORLEWEN_NOT_FOUND = 27,             /* every record is good, and no live one has that type and number; by halving, none that was opened */
     MORLEWEN_RADIO_REFUSED = 31,         /* reading refuses the radio's message; `reading` says why, `value` where */
     /* 32 is not used again: of two messages that reading accepts neither is a proper beginning of the other */
     MORLEWEN_MESSAGE_TOO_LONG = 33,      /* a message for a record is over 510 bytes */
@@ -237,6 +238,21 @@ uint64_t morlewen_check(const uint8_t *file, size_t length);
  * number is in `value`.
  * Refused: 21, 23 to 25 for the bad record, or 27. */
 uint64_t morlewen_find(const uint8_t *file, size_t length, uint16_t type, uint32_t number);
+
+/* Finds by halving, for a file that passes morlewen_check and of which morlewen_ascending says that it is in order: there it gives
+ * the record that morlewen_find gives, or 27 where that gives 27, and it opens at most 8 records. Of the records from `first` up to
+ * `end`, which is one past the last of them, it opens the one at (first + end) / 2, rounded down. A match ends it, by 27 where it is
+ * retired. Else it goes on with the records behind that one where that one's type and number come before those sought, and with
+ * those before it where they come after. In any other file a record that it gives is still good, live and of this type and
+ * number, and 27 says nothing about the records that were not opened. `count` is how many were opened, whatever the answer.
+ * Done: the record's number is in `value`. Refused: 21, 23 to 25 for a bad record that was opened, or 27. */
+uint64_t morlewen_find_by_halving(const uint8_t *file, size_t length, uint16_t type, uint32_t number);
+
+/* Whether the records, retired ones too, stand in strictly ascending order of type, then message number. It opens them from the
+ * first. Done: `value` is 1: they do, as the records of an empty file and a single record do; or `value` is 0, and `count` is the
+ * first record that does not come after the one before it. Refused: 21, or 23 to 25 for a bad record that it comes to before the
+ * order breaks, whose number is in `count` (0 with 21). Two records of the same type and number are not in order, retired or live. */
+uint64_t morlewen_ascending(const uint8_t *file, size_t length);
 
 enum { MORLEWEN_LINE_TYPE = 0, MORLEWEN_LINE_NUMBER = 1, MORLEWEN_LINE_SIZE = 2, MORLEWEN_LINE = 3 };
 

@@ -37,6 +37,7 @@ use Rattle.golden.specs.Finding.{NameFields, FindAnswer, found, finding}
 use Rattle.golden.specs.Finding as find
 use Rattle.golden.specs.Listing.{CountAnswer, counting, countingRetired, EntryAnswer, entryAt}
 use Rattle.golden.specs.Listing as listing
+use Rattle.golden.specs.Halving.{halving}
 use Rattle.golden.specs.Making.{MakeAnswer, making}
 use Rattle.golden.specs.Making as make
 use Rattle.golden.specs.Record.{messageRoom}
@@ -45,18 +46,24 @@ use Rattle.golden.specs.Retiring.{RetireAnswer, retiring}
 use Rattle.golden.specs.Retiring as retire
 use Rattle.golden.specs.Stepping.{StepAnswer, message, end, stepAt}
 use Rattle.golden.specs.Stepping as step
+use Rattle.golden.specs.Halved.{orderNumber, orderPlace}
+use Rattle.golden.specs.Ordering.{OrderAnswer, ascends, breaks, ordering}
+use Rattle.golden.specs.Ordering as order
 use Rattle.golden.specs.Theorems.{checkedNumber, countedNumber, openedNumber, foundNumber, reachedSize, differenceTotal, countPlace, checkPlace, findPlace, stepPlace, entryPlace, comparePlace, makePlace}
 use Rattle.envelope.proofs.PlaceLaws.{places-within}
 use Rattle.envelope.proofs.RewriteLaws.{rewrites-no-longer, rewrite-points-within}
 use Rattle.envelope.proofs.WriteLaws.{writes-no-longer}
 use Rattle.golden.proofs.CountLaws.{retired-are-few}
+use Rattle.golden.proofs.OrderingLaws.{order-names-few, order-points-short}
 use Rattle.golden.proofs.FewLaws.{check-names-few, count-is-few, find-opens-few, step-reaches-short, compare-totals-few}
+use Rattle.golden.proofs.HalvedLaws.{halving-finds-few, halving-points-short}
+use Rattle.golden.proofs.HalvingLaws.{eight-openings}
 use Rattle.golden.proofs.PointLaws.{count-points-nowhere, check-points-short, find-points-short, step-points-short, entry-points-short, compare-points-within, make-points-short}
 use Rattle.golden.proofs.RetiredLaws.{retire-points-short}
 use Rattle.exports.specs.Envelopes.{readSlots, writeSlots, rewriteSlots}
 use Rattle.exports.specs.Feeds.{foundSlots}
 use Rattle.exports.specs.Frames.{unwrapSlots, wrapSlots}
-use Rattle.exports.specs.Goldens.{countSlots, checkSlots, findSlots, lineSlots, stepSlots, compareSlots, makeSlots, retireSlots}
+use Rattle.exports.specs.Goldens.{countSlots, orderSlots, checkSlots, findSlots, lineSlots, stepSlots, compareSlots, makeSlots, retireSlots}
 use Rattle.exports.specs.Word.{word, WordTellsItsSlots}
 
 -- a place in numbers, as it was told
@@ -95,6 +102,14 @@ count-fits f a e = rw e (count-in (counting f) (count-is-few f) (count-points-no
 pub count-retired-fits : (f : List ℕ) (a : CountAnswer) → a ≡ countingRetired f → (countSlots a .count < 2 ^ 16) × (countSlots a .value < 2 ^ 32)
 count-retired-fits f a e = rw e (count-in (countingRetired f) (retired-are-few f) (count-points-nowhere f .1))
 
+order-in : (a : OrderAnswer) → orderNumber a ≤ mostRecords → orderPlace a ≤ messageRoom → (orderSlots a .count < 2 ^ 16) × (orderSlots a .value < 2 ^ 32)
+order-in ascends h p = (omega arith, omega arith)
+order-in (breaks n) h p = (omega (arith, h), omega arith)
+order-in (order.refused n r) h p = (omega (arith, h), omega (arith, p))
+
+pub order-fits : (f : List ℕ) (a : OrderAnswer) → a ≡ ordering f → (orderSlots a .count < 2 ^ 16) × (orderSlots a .value < 2 ^ 32)
+order-fits f a e = rw e (order-in (ordering f) (order-names-few f) (order-points-short f))
+
 check-in : (a : CheckAnswer) → checkedNumber a ≤ mostRecords → checkPlace a ≤ messageRoom → (checkSlots a .count < 2 ^ 16) × (checkSlots a .value < 2 ^ 32)
 check-in (counted n) h p = (omega (arith, h), omega arith)
 check-in (refused n r) h p = (omega (arith, h), omega (arith, p))
@@ -110,6 +125,12 @@ find-in (find.refused r opened) h p = (omega (arith, h .0), omega (arith, p))
 pub find-fits : (f : List ℕ) (name : NameFields) (a : FindAnswer) → a ≡ finding f name
     → (findSlots a .count < 2 ^ 16) × (findSlots a .value < 2 ^ 32)
 find-fits f name a e = rw e (find-in (finding f name) (find-opens-few f name) (find-points-short f name))
+
+pub halving-fits : (f : List ℕ) (name : NameFields) (a : FindAnswer) → a ≡ halving f name
+    → (findSlots a .count < 2 ^ 16) × (findSlots a .value < 2 ^ 32)
+halving-fits f name a e =
+    let eight = eight-openings f name in
+    rw e (find-in (halving f name) (omega (arith, eight), halving-finds-few f name) (halving-points-short f name))
 
 line-in : (a : EntryAnswer) → entryPlace a ≤ messageRoom → lineSlots a .value < 2 ^ 32
 line-in (listing.line messageType number size retired) p = omega arith

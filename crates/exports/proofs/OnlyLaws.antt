@@ -10,7 +10,7 @@ use Rattle.golden.specs.Finding.{NameFields}
 use Rattle.exports.specs.Envelopes.{ReadsForC, WritesForC, RewritesForC, SplitsForC, JoinsForC, JudgesLatenessForC, JudgesSequenceForC}
 use Rattle.exports.specs.Feeds.{Lent, TakesForC, EndsForC, RestartsForC, HoldsForC}
 use Rattle.exports.specs.Frames.{FrameLent, UnwrapsForC, WrapsForC, AcknowledgesForC}
-use Rattle.exports.specs.Goldens.{CountsForC, CountsRetiredForC, ChecksForC, FindsForC, EntersForC, StepsForC, ComparesForC, MakesForC, RetiresForC}
+use Rattle.exports.specs.Goldens.{CountsForC, CountsRetiredForC, ChecksForC, FindsForC, HalvesForC, OrdersForC, EntersForC, StepsForC, ComparesForC, MakesForC, RetiresForC}
 use Rattle.exports.specs.Verdicts.{JudgesForC, JudgesPlacesForC}
 
 only-that : {A : Type 0} (x : A) → Only₁ (λ (r : A). r ≡ x)
@@ -51,6 +51,12 @@ only-checks-for-c f = only-that _
 
 pub only-finds-for-c : (f : List ℕ) (name : NameFields) → Only₁ (FindsForC f name)
 only-finds-for-c f name = only-that _
+
+pub only-halves-for-c : (f : List ℕ) (name : NameFields) → Only₁ (HalvesForC f name)
+only-halves-for-c f name = only-that _
+
+pub only-orders-for-c : (f : List ℕ) → Only₁ (OrdersForC f)
+only-orders-for-c f = only-that _
 
 pub only-enters-for-c : (f : List ℕ) (n : ℕ) (entry : List ℕ) → Only₂ (EntersForC f n entry)
 only-enters-for-c f n entry = only-those _ _

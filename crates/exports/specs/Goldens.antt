@@ -10,10 +10,13 @@ use Rattle.golden.specs.Comparing.{CompareAnswer, same, different, comparing, a
 use Rattle.golden.specs.Comparing as compare
 use Rattle.golden.specs.Finding.{NameFields, FindAnswer, found, finding}
 use Rattle.golden.specs.Finding as find
+use Rattle.golden.specs.Halving.{halving}
 use Rattle.golden.specs.Listing.{CountAnswer, counting, countingRetired, EntryAnswer, line, entryAt}
 use Rattle.golden.specs.Listing as listing
 use Rattle.golden.specs.Making.{MakeAnswer, made, making, afterMaking}
 use Rattle.golden.specs.Making as make
+use Rattle.golden.specs.Ordering.{OrderAnswer, ascends, breaks, ordering}
+use Rattle.golden.specs.Ordering as order
 use Rattle.golden.specs.Retiring.{RetireAnswer, retiring, afterRetiring}
 use Rattle.golden.specs.Retiring as retire
 use Rattle.golden.specs.Stepping.{StepAnswer, message, end, stepAt, nextAfter}
@@ -54,6 +57,21 @@ nameFor messageType number = record { messageType = messageType; number = number
 -- what `morlewen_find` promises
 abbrev pub FindsForC : List ℕ → NameFields → ℕ → Type 0
 FindsForC f name r = r ≡ word (findSlots (finding f name))
+
+-- what `morlewen_find_by_halving` promises (K9)
+abbrev pub HalvesForC : List ℕ → NameFields → ℕ → Type 0
+HalvesForC f name r = r ≡ word (findSlots (halving f name))
+
+-- ---- the order: the value is 1 where it ascends; else the count is the record where it breaks, or the refused record's number
+
+abbrev pub orderSlots : OrderAnswer → Slots
+orderSlots ascends = slots 0 0 0 1
+orderSlots (breaks n) = slots 0 0 n 0
+orderSlots (order.refused n r) = refusedWith r n
+
+-- what `morlewen_ascending` promises (K9)
+abbrev pub OrdersForC : List ℕ → ℕ → Type 0
+OrdersForC f r = r ≡ word (orderSlots (ordering f))
 
 -- ---- where a record is good, the second slot tells whether it is retired (K7)
 

@@ -6,9 +6,10 @@ ghost use Rattle.golden.specs.Comparing.{toldComparison};
 ghost use Rattle.golden.specs.Finding.{toldFinding};
 ghost use Rattle.golden.specs.Listing.{toldCounting, toldEntry};
 ghost use Rattle.golden.specs.Making.{toldMaking};
+ghost use Rattle.golden.specs.Ordering.{toldOrdering};
 ghost use Rattle.golden.specs.Retiring.{toldRetiring};
 ghost use Rattle.golden.specs.Stepping.{toldReached};
-ghost use Rattle.exports.specs.Goldens.{nameFor, countSlots, CountsForC, CountsRetiredForC, checkSlots, ChecksForC, findSlots, FindsForC, markOf, lineSlots, lineAfter, EntersForC, stepSlots, partAfter, StepsForC, compareSlots, ComparesForC, makeSlots, MakesForC, retireSlots, RetiresForC};
+ghost use Rattle.exports.specs.Goldens.{nameFor, countSlots, CountsForC, CountsRetiredForC, checkSlots, ChecksForC, findSlots, FindsForC, HalvesForC, orderSlots, OrdersForC, markOf, lineSlots, lineAfter, EntersForC, stepSlots, partAfter, StepsForC, compareSlots, ComparesForC, makeSlots, MakesForC, retireSlots, RetiresForC};
 ghost use Rattle.exports.specs.Word.{word};
 use crate::answers::answer;
 use crate::answers::refused_answer;
@@ -19,14 +20,17 @@ use golden::Entry;
 use golden::Finding;
 use golden::Making;
 use golden::Name;
+use golden::Ordering;
 use golden::Reached;
 use golden::Retiring;
+use golden::ascending;
 use golden::check;
 use golden::compare;
 use golden::count;
 use golden::count_retired;
 use golden::entry_at;
 use golden::find;
+use golden::find_by_halving;
 use golden::make;
 use golden::retire;
 use golden::step;
@@ -66,6 +70,24 @@ pub extern "C" fn morlewen_find(file: &[u8], message_type: u16, number: u32) -> 
         number,
     };
     find_word(find(file, name))
+}
+
+#[no_mangle]
+pub extern "C" fn morlewen_find_by_halving(file: &[u8], message_type: u16, number: u32) -> u64
+    ensures { λ r. ⌜ HalvesForC (now (file .entry)) (nameFor «message_type» number) r ⌝ }
+{
+    let name = Name {
+        message_type,
+        number,
+    };
+    find_word(find_by_halving(file, name))
+}
+
+#[no_mangle]
+pub extern "C" fn morlewen_ascending(file: &[u8]) -> u64
+    ensures { λ r. ⌜ OrdersForC (now (file .entry)) r ⌝ }
+{
+    order_word(ascending(file))
 }
 
 #[no_mangle]
@@ -140,6 +162,17 @@ fn find_word(finding: Finding) -> u64
     match finding {
         Finding::Found { record, opened } => answer(0, 0, opened, record),
         Finding::Refused { refusal, opened } => refused_answer(refusal.numbers(), opened),
+    }
+}
+
+fn order_word(ordering: Ordering) -> u64
+    requires { ⌜ (orderSlots (toldOrdering ordering) .count < 2 ^ 16) × (orderSlots (toldOrdering ordering) .value < 2 ^ 32) ⌝ }
+    ensures { λ r. ⌜ r ≡ word (orderSlots (toldOrdering ordering)) ⌝ }
+{
+    match ordering {
+        Ordering::Ascends => answer(0, 0, 0, 1),
+        Ordering::Breaks(record) => answer(0, 0, record, 0),
+        Ordering::Refused { record, refusal } => refused_answer(refusal.numbers(), record),
     }
 }
 

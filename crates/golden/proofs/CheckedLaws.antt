@@ -14,7 +14,7 @@ use Rattle.envelope.specs.Refusals.{Refused, plainly, numbersOf, Gives}
 use Rattle.golden.specs.Checking.{CheckAnswer, counted, repeats, unlessBad, checkFrom, checking}
 use Rattle.golden.specs.Checking as check
 use Rattle.golden.specs.File.{badFile, countOf, judgedAt}
-use Rattle.golden.specs.Finding.{NameFields, hasName, nameOf, FindAnswer, found, finding}
+use Rattle.golden.specs.Finding.{NameFields, hasName, nameOf, FindAnswer, found, refused, finding}
 use Rattle.golden.specs.Pairing.{isNamed, pairs}
 use Rattle.golden.specs.Record.{Judged, good, bad}
 use Rattle.golden.specs.Theorems.{GoodAt, Sound, Passed, CheckedAreSound, SoundAreChecked, FirstRefused, not-a-file, bad-record, repeated, CheckNamesTheFirst, FirstRefusedIsNamed, OneName, NoTwoOfOneName, Later, RefusesTheLater, LaterIsRefused, NamedBy, AnyTwoAreRefused, EarlierIsFound, TakenOut, FewerStillPass, NotNamed, FirstNamed, first, none, FindsTheFirst, TheOne, one, FindsTheOne, FindReason, no-file, first-bad, first-named, none-named}
@@ -279,3 +279,14 @@ finds-the-one f name n e = by (finding f name) (finds-the-first f name n e)
         let named : isNamed name (judgedAt f k) ≡ true = rw j q in
         one k l named (only f name n (checked-are-sound f n e .sound) k l named)
     by _ (none others) = none (λ i l. not-named f name i (others i l))
+
+-- so find is settled by any live record of the name, or by there being none
+pub finds : (f : List ℕ) (name : NameFields) (n : ℕ) (a : FindAnswer) → TheOne f name n a
+    → (k : ℕ) → k < n → isNamed name (judgedAt f k) ≡ true → a ≡ found k (k + 1)
+finds f name n _ (one i l p u) k m q = let e : k ≡ i = u k m q in rw e
+finds f name n _ (none u) k m q = absurd (true-is-not-false q (u k m))
+
+pub finds-none : (f : List ℕ) (name : NameFields) (n : ℕ) (a : FindAnswer) → TheOne f name n a
+    → ((i : ℕ) → i < n → isNamed name (judgedAt f i) ≡ false) → a ≡ refused (plainly 27) n
+finds-none f name n _ (one i l p u) h = absurd (true-is-not-false p (h i l))
+finds-none f name n _ (none u) h = refl

@@ -14,13 +14,14 @@ use Rattle.golden.specs.Checking as check
 use Rattle.golden.specs.Comparing as compare
 use Rattle.golden.specs.File.{badFile, countOf, notThere, recordAt, judgedAt}
 use Rattle.golden.specs.Finding as find
-use Rattle.golden.specs.Gives.{CountGives, CountRetiredGives, CheckGives, FindGives, StepGives, EntryGives, CompareGives, MakeGives, RetireGives}
+use Rattle.golden.specs.Gives.{CountGives, CountRetiredGives, CheckGives, FindGives, HalvingGives, StepGives, EntryGives, CompareGives, MakeGives, RetireGives}
 use Rattle.golden.specs.Listing as list
 use Rattle.golden.specs.Making as make
 use Rattle.golden.specs.Record.{recordSize, messageRoom, messageOf, Judged, good, bad}
 use Rattle.golden.specs.Retiring as retire
 use Rattle.golden.specs.Stepping as step
 use Rattle.golden.proofs.FileLaws.{InJudged, judged-gives}
+use Rattle.golden.proofs.HalvingLaws.{halving-ends}
 
 -- ---- count
 
@@ -94,6 +95,14 @@ find-gives f name r opened e = subst InFind e (go (badFile f))
     go : (b : Bool) → InFind (cond b (find.refused (plainly 21) 0) (find.findFrom f name 0 (countOf f)))
     go true = refl
     go false = find-from f name 0 (countOf f)
+
+pub halving-gives : HalvingGives
+halving-gives f name r opened e =
+    subst InFind e
+    (halving-ends InFind f name (λ k. refl)
+    (λ k opened x l j. subst (InJudged (21 ∷ 23 ∷ 24 ∷ 27 ∷ []) (25 ∷ []) refl refl refl) j (judged-gives (21 ∷ 23 ∷ 24 ∷ 27 ∷ []) (25 ∷ []) refl refl refl f k))
+    (λ k opened l. tt)
+    refl)
 
 -- ---- step and line
 

@@ -20,6 +20,8 @@ pub mod OnlyLaws
 pub mod WalkLaws
 pub mod FoundLaws
 pub mod CheckedLaws
+pub mod HalvingLaws
+pub mod TurnLaws
 pub mod Without26Laws
 pub mod WithoutMarkLaws
 pub mod SameLaws
@@ -30,3 +32,5 @@ pub mod KeptLaws
 pub mod RetiredLaws
 pub mod CountLaws
 pub mod MadeLaws
+pub mod HalvedLaws
+pub mod OrderingLaws

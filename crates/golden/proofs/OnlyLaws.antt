@@ -16,6 +16,8 @@ use Rattle.envelope.specs.declared.reader.Refusal as envelope
 use Rattle.golden.specs.Checking as check
 use Rattle.golden.specs.Comparing as compare
 use Rattle.golden.specs.Finding as find
+use Rattle.golden.specs.Halving.{halving, Halves}
+use Rattle.golden.specs.Ordering as order
 use Rattle.golden.specs.Listing as list
 use Rattle.golden.specs.Making as make
 use Rattle.golden.specs.Refusal.{toldGoldenRefusal, NumbersGoldenRefusal}
@@ -33,6 +35,8 @@ use Rattle.golden.specs.declared.lister.Counting.{Counting}
 use Rattle.golden.specs.declared.lister.Counting.the-variants as counting
 use Rattle.golden.specs.declared.lister.Entry.{Entry}
 use Rattle.golden.specs.declared.lister.Entry.the-variants as entry
+use Rattle.golden.specs.declared.orderer.Ordering.{Ordering}
+use Rattle.golden.specs.declared.orderer.Ordering.the-variants as ordering
 use Rattle.golden.specs.declared.maker.Making.{Making}
 use Rattle.golden.specs.declared.maker.Making.the-variants as making
 use Rattle.golden.specs.declared.refusal.Refusal.{Refusal}
@@ -109,6 +113,22 @@ untold-finding (finding.Refused r opened) = λ i. finding.Refused (untold-golden
 
 pub only-finds : (f : List ℕ) (name : Name) → Only₁ (find.Finds f name)
 only-finds f name = only-by-telling find.toldFinding untoldFinding untold-finding (find.finding f (find.toldName name))
+
+pub only-halves : (f : List ℕ) (name : Name) → Only₁ (Halves f name)
+only-halves f name = only-by-telling find.toldFinding untoldFinding untold-finding (halving f (find.toldName name))
+
+abbrev untoldOrdering : order.OrderAnswer → Ordering
+untoldOrdering order.ascends = ordering.Ascends
+untoldOrdering (order.breaks n) = ordering.Breaks n
+untoldOrdering (order.refused n r) = ordering.Refused n (untoldGoldenRefusal r)
+
+untold-ordering : (a : Ordering) → untoldOrdering (order.toldOrdering a) ≡ a
+untold-ordering ordering.Ascends = refl
+untold-ordering (ordering.Breaks n) = refl
+untold-ordering (ordering.Refused n r) = ap (ordering.Refused n) (untold-golden-refusal r)
+
+pub only-orders : (f : List ℕ) → Only₁ (order.Orders f)
+only-orders f = only-by-telling order.toldOrdering untoldOrdering untold-ordering (order.ordering f)
 
 -- ---- step
 

@@ -7,8 +7,10 @@ use Rattle.envelope.specs.Refusals.{Refused, Gives}
 use Rattle.golden.specs.Checking as check
 use Rattle.golden.specs.Comparing as compare
 use Rattle.golden.specs.Finding as find
+use Rattle.golden.specs.Halving.{halving}
 use Rattle.golden.specs.Listing as list
 use Rattle.golden.specs.Making as make
+use Rattle.golden.specs.Ordering as order
 use Rattle.golden.specs.Retiring as retire
 use Rattle.golden.specs.Stepping as step
 
@@ -25,6 +27,16 @@ abbrev pub FindGives : Type 0
 FindGives =
     (f : List ℕ) (name : find.NameFields) (r : Refused) (opened : ℕ) → find.finding f name ≡ find.refused r opened
     → Gives (21 ∷ 23 ∷ 24 ∷ 27 ∷ []) (25 ∷ []) r
+
+-- of find by halving
+abbrev pub HalvingGives : Type 0
+HalvingGives =
+    (f : List ℕ) (name : find.NameFields) (r : Refused) (opened : ℕ) → halving f name ≡ find.refused r opened
+    → Gives (21 ∷ 23 ∷ 24 ∷ 27 ∷ []) (25 ∷ []) r
+
+-- of the order
+abbrev pub OrderGives : Type 0
+OrderGives = (f : List ℕ) (n : ℕ) (r : Refused) → order.ordering f ≡ order.refused n r → Gives (21 ∷ 23 ∷ 24 ∷ []) (25 ∷ []) r
 
 -- of a step, and so of a walk
 abbrev pub StepGives : Type 0

@@ -9,16 +9,19 @@ use lib.ListN.{getD}
 use Rattle.envelope.specs.Fields.{Fields}
 use Rattle.envelope.specs.Layout.{typePlace, numberPlace}
 use Rattle.envelope.specs.Numbers.{twoAt, fourAt}
-use Rattle.envelope.specs.Refusals.{Refused}
+use Rattle.envelope.specs.Refusals.{Refused, plainly}
 use Rattle.envelope.specs.Told.{toldEnvelope}
 use Rattle.golden.specs.File.{recordAt}
-use Rattle.golden.specs.Finding.{NameFields, hasName, nameOf}
+use Rattle.golden.specs.Finding.{NameFields, hasName, nameOf, FindAnswer, found, refused, toldFinding}
+use Rattle.golden.specs.Halving.{precedes}
 use Rattle.golden.specs.Pairing.{anyBelow}
 use Rattle.golden.specs.Record.{headSize, isRetired, storedLength, Judged, judging}
 use Rattle.golden.specs.Record as judged
 use Rattle.golden.specs.Refusal.{toldGoldenRefusal}
 use Rattle.golden.specs.declared.finder.Seen.{Seen}
 use Rattle.golden.specs.declared.finder.Seen.the-variants as seen
+use Rattle.golden.specs.declared.halver.Turn.{Turn}
+use Rattle.golden.specs.declared.halver.Turn.the-variants.{Ends, On}
 use Rattle.golden.specs.declared.record.Opening.{Opening}
 use Rattle.golden.specs.declared.record.Opening.the-variants.{Good, Bad}
 use Rattle.golden.specs.declared.refusal.Refusal.{Refusal}
@@ -58,6 +61,28 @@ abbrev pub toldSeen : Seen → Sight
 toldSeen (seen.Bad r) = bad (toldGoldenRefusal r)
 toldSeen seen.Sought = sought
 toldSeen seen.Other = other
+
+-- ---- a turn of find by halving, which opened record n: it ends, or goes on from first up to end
+
+pub data Turned : Type 0 where
+  ends : FindAnswer → Turned
+  on : (first end : ℕ) → Turned
+
+abbrev pub sameName : NameFields → NameFields → Bool
+sameName own name = eqb (own .messageType) (name .messageType) && eqb (own .number) (name .number)
+
+abbrev pub turnByName : (retired : Bool) → NameFields → NameFields → (first n end opened : ℕ) → Turned
+turnByName retired own name first n end opened =
+    cond (sameName own name) (ends (cond retired (refused (plainly 27) opened) (found n opened)))
+    (cond (precedes own name) (on (n + 1) end) (on first n))
+
+abbrev pub turnOf : NameFields → (first n end opened : ℕ) → Opened → Turned
+turnOf name first n end opened (bad r) = ends (refused r opened)
+turnOf name first n end opened (holding size retired f) = turnByName retired (nameOf f) name first n end opened
+
+abbrev pub toldTurn : Turn → Turned
+toldTurn (Ends finding) = ends (toldFinding finding)
+toldTurn (On first end) = on first end
 
 -- ---- the name and the mark of a good record as they stand in the record's bytes, by which check looks back
 

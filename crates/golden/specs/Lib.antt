@@ -2,6 +2,8 @@ pub mod Refusal
 pub mod Record
 pub mod File
 pub mod Finding
+pub mod Halving
+pub mod Ordering
 pub mod Pairing
 pub mod Checking
 pub mod Stepping
@@ -18,3 +20,4 @@ pub mod Gives
 pub mod Helpers
 pub mod Theorems
 pub mod Retired
+pub mod Halved

@@ -1,11 +1,13 @@
-// The golden file: check, walk, find, compare, make a record, retire one, and what a listing needs. The file is only read.
+// The golden file: check, walk, find, find by halving, compare, make a record, retire one, and what a listing needs. The file is only read.
 // Rests on the crate `envelope`, by its promises and the laws that it exports.
 pub mod checker;
 pub mod comparer;
 mod file;
 pub mod finder;
+pub mod halver;
 pub mod lister;
 pub mod maker;
+pub mod orderer;
 mod positions;
 pub mod record;
 pub mod refusal;
@@ -20,6 +22,7 @@ pub use crate::comparer::compare;
 pub use crate::finder::Finding;
 pub use crate::finder::Name;
 pub use crate::finder::find;
+pub use crate::halver::find_by_halving;
 pub use crate::lister::Counting;
 pub use crate::lister::Entry;
 pub use crate::lister::count;
@@ -27,6 +30,8 @@ pub use crate::lister::count_retired;
 pub use crate::lister::entry_at;
 pub use crate::maker::Making;
 pub use crate::maker::make;
+pub use crate::orderer::Ordering;
+pub use crate::orderer::ascending;
 pub use crate::record::Record;
 pub use crate::refusal::Refusal;
 pub use crate::retirer::Retiring;

@@ -38,3 +38,8 @@ pub mod RetiredCases
 pub mod WrongRetirings
 pub mod Retiring
 pub mod RetiredInstances
+pub mod HalvingCases
+pub mod EightOpenings
+pub mod WrongHalvings
+pub mod Halving
+pub mod HalvingInstances

@@ -1,4 +1,4 @@
--- Files of one and two records, of M with other numbers, one of them retired, and what check and find say of them.
+-- Files of one to three records, of M with other numbers, one of them retired, and what check and find say of them.
 -- The checker computes them, in proofs/SmallFiles.
 use Prim.Native.Nat.{ℕ}
 use mathlib.Core.List.{List, _++_}
@@ -22,9 +22,16 @@ name n = record { messageType = 6000; number = n }
 abbrev pub two : List ℕ
 two = recordOf (numbered 1) ++ recordOf (numbered 2)
 
--- the same with its first record retired
+abbrev pub three : List ℕ
+three = two ++ recordOf (numbered 3)
+
+-- two with its first record retired
 abbrev pub withdrawn : List ℕ
 withdrawn = marked two 0
+
+-- one in descending order
+abbrev pub descending : List ℕ
+descending = recordOf (numbered 2) ++ recordOf (numbered 1)
 
 -- one name twice
 abbrev pub twice : List ℕ
