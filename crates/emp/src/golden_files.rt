@@ -6,16 +6,20 @@ use golden::Counting;
 use golden::Entry;
 use golden::Finding;
 use golden::Name;
+use golden::Ordering;
 use golden::Refusal;
+use golden::ascending;
 use golden::check;
 use golden::count;
 use golden::count_retired;
 use golden::entry_at;
 use golden::find;
+use golden::find_by_halving;
 use golden::stored_message;
 use wording::Manner;
 use wording::Status;
 use wording::refusals::GOLDEN_FILE;
+use wording::refusals::OF_A_RECORD;
 use wording::refusals::OF_FILE;
 use wording::refusals::RECORD;
 use wording::refusals::SEARCHED_FILE;
@@ -100,7 +104,14 @@ fn tell_checked(manner: Manner, file: &[u8], records: usize) -> Status {
     };
     let numbers = [records as u64, retired as u64];
     match tell(manner, Status::Done, rows::CHECKED, &numbers, file) {
-        Status::Done => tell_retired(manner, file, records),
+        Status::Done => tell_rest(manner, file, records),
+        _ => Status::Complained,
+    }
+}
+
+fn tell_rest(manner: Manner, file: &[u8], records: usize) -> Status {
+    match tell_retired(manner, file, records) {
+        Status::Done => tell_order(manner, file),
         _ => Status::Complained,
     }
 }
@@ -117,6 +128,20 @@ fn tell_retired(manner: Manner, file: &[u8], records: usize) -> Status {
         n += 1;
     }
     tell(manner, Status::Done, rows::LINE_END, &[], file)
+}
+
+// The records are good, so they stand in order or break it.
+fn tell_order(manner: Manner, file: &[u8]) -> Status {
+    match ascending(file) {
+        Ordering::Ascends => tell(manner, Status::Done, rows::ORDER, &[0, 0], file),
+        Ordering::Breaks(record) => {
+            tell(manner, Status::Done, rows::ORDER, &[1, record as u64], file)
+        }
+        Ordering::Refused {
+            record: _,
+            refusal: _,
+        } => Status::Done,
+    }
 }
 
 fn is_retired(entry: Entry) -> bool {
@@ -180,7 +205,53 @@ fn tell_taken(manner: Manner, file: &[u8], record: usize, refusal: Refusal, name
 }
 
 pub fn find_record(manner: Manner, file: &[u8], name: Name) -> Status {
-    match find(file, name) {
+    tell_finding(manner, file, name, find(file, name))
+}
+
+pub fn find_by_halving_in(manner: Manner, file: &[u8], name: Name) -> Status {
+    tell_halving(manner, file, find_by_halving(file, name))
+}
+
+fn tell_halving(manner: Manner, file: &[u8], finding: Finding) -> Status {
+    match finding {
+        Finding::Found { record, opened } => tell(
+            manner,
+            Status::Done,
+            rows::FOUND,
+            &[record as u64, opened as u64],
+            file,
+        ),
+        Finding::Refused { refusal, opened } => refuse_halving(manner, file, refusal, opened),
+    }
+}
+
+// 27 says nothing about the records that were not opened.
+fn refuse_halving(manner: Manner, file: &[u8], refusal: Refusal, opened: usize) -> Status {
+    let opened = opened as u64;
+    match refusal {
+        Refusal::NotFound => {
+            let number = refusal.numbers().number as u64;
+            let numbers = [number, opened, opened, number];
+            tell(manner, Status::Refused, rows::MISSED, &numbers, file)
+        }
+        _ => refuse_opened(manner, refusal, opened),
+    }
+}
+
+// A bad record has no number in this answer: one of those opened is bad.
+fn refuse_opened(manner: Manner, refusal: Refusal, opened: u64) -> Status {
+    let of = Subject {
+        what: SEARCHED_FILE,
+        number: 0,
+        further: opened,
+        whole: OF_A_RECORD,
+        from: 0,
+    };
+    refuse_by(manner, of, refusal.numbers())
+}
+
+fn tell_finding(manner: Manner, file: &[u8], name: Name, finding: Finding) -> Status {
+    match finding {
         Finding::Found { record, opened } => tell(
             manner,
             Status::Done,

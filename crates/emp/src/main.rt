@@ -40,8 +40,8 @@ use wording::telling::complain;
 fn main() {
     status::tell(run(
         b"list GOLDEN\tevery record: its type, number and length and whether it is retired, or its refusal\tgood RECORD TYPE NUMBER LENGTH, and the word retired behind these where it is, or refused RECORD REFUSAL READING PLACE FILE-PLACE
-check GOLDEN\tthe count of records and which are retired, or the first that is bad or is live and has the type and number of an earlier live one\tgood COUNT RETIRED, which is how many are retired, and then the number of each, or refused RECORD REFUSAL READING PLACE FILE-PLACE, and with 26 the EARLIER record behind these
-find GOLDEN TYPE NUMBER\tthe first live record of that type and number, and how many were opened\tfound RECORD OPENED, or refused RECORD OPENED REFUSAL READING PLACE FILE-PLACE, and then retired RECORD where a retired one has them
+check GOLDEN\tthe count of records, which are retired and whether they stand in ascending order of type, then number, or the first that is bad or is live and has the type and number of an earlier live one\tgood COUNT RETIRED, which is how many are retired, and then the number of each, with a second line, ascending or breaks RECORD; or else refused RECORD REFUSAL READING PLACE FILE-PLACE, and with 26 the EARLIER record behind these
+find GOLDEN TYPE NUMBER\tthe first live record of that type and number, and how many were opened; with --halving the record that at most eight openings lead to\tfound RECORD OPENED, or refused RECORD OPENED REFUSAL READING PLACE FILE-PLACE, and with 27, but not by halving, retired RECORD where a retired one has them; by halving RECORD and FILE-PLACE of a refusal are -
 compare GOLDEN RECORD RADIO\ta record beside the radio's message: same, or where the two differ\tsame LENGTH, or different TOTAL and then place PLACE GOLDEN RADIO FIELD for each place below 512, or refused REFUSAL READING PLACE FILE-PLACE
 read MESSAGE\tevery field of a message, or its refusal, and its bytes with the place in brackets\taccepted LENGTH TYPE VERSION FLAGS DATA-LENGTH NUMBER TIME VARIABLE-SIZE TTL QOS SOURCE DESTINATION BODY-PLACE INTEGRITY KIND, or refused REFUSAL READING PLACE
 judge MESSAGE\tevery rule of reading by itself: kept, broken or not judged, with the numbers found; then what read says\trule RULE VERDICT PLACE for each rule, kept, broken or unjudged, and then accepted LENGTH, or refused REFUSAL READING PLACE
@@ -55,7 +55,7 @@ acknowledge COMMID ACKNOWLEDGED\tthe acknowledgment, with a COMMID of its own, o
 watch [GOLDEN]\tevery message of standard input the moment its last byte is in, and the record of its type and number: same, in how many places the two differ, or that it is retired\tmessage MESSAGE TYPE NUMBER LENGTH DISTANCE RECORD DIFFERING, and the word retired behind these where the record is, or refused MESSAGE BYTES REFUSAL READING PLACE STREAM-PLACE; of a GOLDEN that check refuses what check tells
 help [COMMAND]\tthis, or what a command does\tthe form of each command
 ",
-        b"--plain\n-q\n--help\n-h\n--version\n--\n",
+        b"--plain\n-q\n--help\n-h\n--version\n--\n--halving\n",
     ));
 }
 
@@ -159,7 +159,7 @@ fn answer_on(command: Command, file: &[u8]) -> Status {
     match row {
         commands::LIST => golden_files::list_file(manner, file),
         commands::CHECK => golden_files::check_file(manner, file),
-        commands::FIND => golden_files::find_record(manner, file, name_of(command)),
+        commands::FIND => find_in(command, file),
         commands::COMPARE => compare_with(command, file),
         commands::READ => reading::read_message(manner, file),
         commands::JUDGE => judging::judge_message(manner, file),
@@ -171,6 +171,15 @@ fn answer_on(command: Command, file: &[u8]) -> Status {
         commands::WRAP => framing::wrap_message(manner, narrow(command.number), file),
         _ => watching::watch_beside(manner, file),
     }
+}
+
+fn find_in(command: Command, file: &[u8]) -> Status {
+    let manner = command.manner;
+    let name = name_of(command);
+    if command.halving {
+        return golden_files::find_by_halving_in(manner, file, name);
+    }
+    golden_files::find_record(manner, file, name)
 }
 
 fn name_of(command: Command) -> Name {

@@ -14,6 +14,7 @@ pub struct Given {
     pub names: usize,
     pub plain: bool,
     pub quiet: bool,
+    pub halving: bool,
     pub help: bool,
     pub version: bool,
     pub names_alone: bool,
@@ -35,12 +36,15 @@ const VERSION: usize = 4;
 
 const NAMES_ALONE: usize = 5;
 
+const HALVING: usize = 6;
+
 // Reads every argument, and puts the places of those that are names into the list.
 pub fn given_by(options: &[u8], names: &mut [usize; NAMES]) -> Given {
     let mut given = Given {
         names: 0,
         plain: false,
         quiet: false,
+        halving: false,
         help: false,
         version: false,
         names_alone: false,
@@ -121,6 +125,9 @@ fn with_option(before: Given, option: usize, argument: usize) -> Given {
         }
         NAMES_ALONE => {
             given.names_alone = true;
+        }
+        HALVING => {
+            given.halving = true;
         }
         _ => {
             given.unknown = first_of(before.unknown, argument);

@@ -54,6 +54,7 @@ pub const HELP: usize = 14;
 pub struct Command {
     pub row: usize,
     pub manner: Manner,
+    pub halving: bool,
     pub number: u64,
     pub further: u64,
     pub file: usize,
@@ -116,6 +117,10 @@ pub fn command_of(form: &[u8], found: usize, given: Given, names: &[usize; NAMES
         complain(rows::NOT_QUIET, form, form);
         return Asked::Wrong;
     }
+    if given.halving && found != FIND {
+        complain(rows::NOT_HALVING, form, form);
+        return Asked::Wrong;
+    }
     with_arguments(form, found, given, names)
 }
 
@@ -139,6 +144,7 @@ fn with_arguments(form: &[u8], found: usize, given: Given, names: &[usize; NAMES
     Asked::Command(Command {
         row: found,
         manner: manner_of(given),
+        halving: given.halving,
         number: taken.number,
         further: taken.further,
         file: taken.file,

@@ -71,6 +71,7 @@ status 1, or at the end, with status 0 also where messages differ.
 Options, before or after names
   --plain    one record or finding a line, its fields parted by tabs, for scripts; emp help COMMAND tells which
   -q         of check and compare, no answer but the exit status
+  --halving  of find, the way of at most eight openings, for a file that check says is good and in ascending order
   -h --help  this, or what a command does
   --version  the version, and the kit that proved it
   --         all words behind it are names

@@ -36,6 +36,9 @@ pub const OF_FILE: u64 = 2;
 
 pub const OF_STREAM: u64 = 3;
 
+// A record whose number is not told.
+pub const OF_A_RECORD: u64 = 4;
+
 // The last of the rules of reading, which alone tell a place.
 const LAST_RULE: u8 = 7;
 

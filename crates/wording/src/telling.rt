@@ -51,16 +51,20 @@ pub(crate) fn put_by(to: i32, status: Status, half: usize, numbers: &[u64], lent
 \0good\t#\t#\t#\t#{|\tretired}
 \0good: # record*_\0good\t#\t#\0, record # retired\0\t#\0
 \0
+\0{in ascending order|not in ascending order: record # does not come after the one before it}
+\0{ascending|breaks\t#}
 \0record #: refused #, type #, number # is already that of record #
 \0refused\t#\t#__\t0\t0\t-\t#
+\0refused #, no live record of that type and number was opened (# opened)
+\0refused__\t-\t#\t#\t0\t0\t-
 \0record # has that type and number, and is retired
 \0retired\t#
 \0record # (# opened)
 \0found\t#\t#
 \0same, # byte*
 \0same\t#
-\0{|emp: ||record #: |message #, after # byte*: |frame #, at place #: |_|record #: _}refused !{|, at place #}{|| of the message, place # of the file| of the message, place # of the stream}{|, where the message ends|, the header version|, the flags|, the variable header size|, the data length|, the addresses|, the integrity field}{|||||| (# opened)| (# opened)}
-\0refused{||\t-|\t#|\t#\t#|\t#\t#|\t-\t#|\t#\t#}\t#\t#_\t#{|\t-|\t#|\t#}
+\0{|emp: ||record #: |message #, after # byte*: |frame #, at place #: |_|record #: _}refused !{|, at place #}{|| of the message, place # of the file| of the message, place # of the stream| of the message}{|, where the message ends|, the header version|, the flags|, the variable header size|, the data length|, the addresses|, the integrity field}{|||||| (# opened)| (# opened)}
+\0refused{||\t-|\t#|\t#\t#|\t#\t#|\t-\t#|\t#\t#}\t#\t#_\t#{|\t-|\t#|\t#|\t-}
 \0accepted, # byte*
 header version        #
 message type          #
@@ -132,6 +136,7 @@ place   golden                            radio                           differ
 \0emp: too many words; \0the form is emp ^
 \0emp: too few words; \0the form is emp ^
 \0emp: -q is for check and compare alone\0
+\0emp: --halving is for find alone\0
 \0emp: standard input, which - names, can be read once\0
 \0emp: a word is too long: it has at most 4096 bytes\0
 \0emp: ^ must be a number from 0 to \0^, in 1 to 20 digits and nothing else
