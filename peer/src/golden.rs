@@ -1,11 +1,13 @@
-//! Golden files: count, check, find, walk, compare, make, list and retire.
+//! Golden files: count, check, find, find by halving, walk, compare, make, list and retire.
 //! Each refusal stands in the order in which it is looked for.
 
+mod halving;
 mod retiring;
 mod stored;
 
 use crate::crc::Sum;
 use crate::envelope::{self, Fields, Unread};
+pub use halving::{ascending, find_by_halving, Ascent, MOST_OPENED};
 pub use retiring::{retire, retired_records};
 use std::ops::Range;
 pub use stored::Stored;

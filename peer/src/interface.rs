@@ -27,6 +27,10 @@ pub const FEED_ROOM: usize = 510;
 pub const FEED_NUMBERS: usize = 2;
 pub const COMMIDS: usize = 2;
 
+/// What the value of a done `ascending` tells.
+pub const BREAKS: u32 = 0;
+pub const ASCENDS: u32 = 1;
+
 /// Places in the fields of a message.
 pub mod field {
     pub const TYPE: usize = 0;

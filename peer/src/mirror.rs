@@ -2,14 +2,14 @@
 //! Only the form of answers is settled here; the answers themselves are the peer's.
 
 use crate::interface::{commid, feed_number, field, Answer, Order, Timing};
-use crate::interface::{ACKNOWLEDGMENT, BROKEN, DATA_MESSAGE, KEPT, NOT_JUDGED};
+use crate::interface::{ACKNOWLEDGMENT, ASCENDS, BREAKS, BROKEN, DATA_MESSAGE, KEPT, NOT_JUDGED};
 use crate::interface::{AHEAD, BEHIND, FEED_INSIDE, FEED_WHOLE, IN_TIME, LATE, NEXT, NO_CLOCK, REPEAT};
 use crate::interface::{COMMIDS, FEED_NUMBERS, FEED_ROOM, FIELDS, LINE, PART, QOS_PARTS, RULES};
 use peer::crc::{Division, Sum};
 use peer::envelope::{self, Draft, Fields, Integrity, Kind, Lateness, Qos, Sequence, Service};
 use peer::feed::{self, Feed, Standing, Taken};
 use peer::frame::{self, Body, Unwrapped};
-use peer::golden::{self, Refusal, Step};
+use peer::golden::{self, Ascent, Bad, Refusal, Search, Step};
 use peer::judge::{self, Verdict};
 
 /// A refusal that has no place.
@@ -182,13 +182,33 @@ pub fn retired_records(file: &[u8]) -> Answer {
 pub fn check(file: &[u8]) -> Answer {
     match golden::check::<Division>(file) {
         Ok(count) => counted(count),
-        Err(bad) => Answer { count: bad.record as u16, ..golden_refused(bad.refusal) },
+        Err(bad) => bad_record(bad),
     }
 }
 
+/// A refusal with the record that it is about.
+fn bad_record(bad: Bad) -> Answer {
+    Answer { count: bad.record as u16, ..golden_refused(bad.refusal) }
+}
+
 pub fn find(file: &[u8], message_type: u16, number: u32) -> Answer {
-    let search = golden::find::<Division>(file, message_type, number);
+    searched(golden::find::<Division>(file, message_type, number))
+}
+
+pub fn find_by_halving(file: &[u8], message_type: u16, number: u32) -> Answer {
+    searched(golden::find_by_halving::<Division>(file, message_type, number))
+}
+
+fn searched(search: Search) -> Answer {
     Answer { count: search.opened as u16, ..search.answer.map_or_else(golden_refused, done_with) }
+}
+
+pub fn ascending(file: &[u8]) -> Answer {
+    match golden::ascending::<Division>(file) {
+        Ok(Ascent::Ascends) => Answer { value: ASCENDS, ..Answer::default() },
+        Ok(Ascent::BreaksAt(record)) => Answer { value: BREAKS, ..counted(record) },
+        Err(bad) => bad_record(bad),
+    }
 }
 
 pub fn line(file: &[u8], record: usize, line: &mut [u64; LINE]) -> Answer {

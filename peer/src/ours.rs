@@ -38,6 +38,8 @@ extern "C" {
     fn morlewen_retired_records(file: *const u8, length: usize) -> u64;
     fn morlewen_check(file: *const u8, length: usize) -> u64;
     fn morlewen_find(file: *const u8, length: usize, message_type: u16, number: u32) -> u64;
+    fn morlewen_find_by_halving(file: *const u8, length: usize, message_type: u16, number: u32) -> u64;
+    fn morlewen_ascending(file: *const u8, length: usize) -> u64;
     fn morlewen_line(file: *const u8, length: usize, record: usize, line: *mut u64) -> u64;
     fn morlewen_step(file: *const u8, length: usize, record: usize, part: *mut u64) -> u64;
     fn morlewen_compare(
@@ -161,6 +163,16 @@ pub fn check(file: &[u8]) -> Answer {
 pub fn find(file: &[u8], message_type: u16, number: u32) -> Answer {
     // SAFETY: the pointer and the length are of one slice.
     unpack(unsafe { morlewen_find(file.as_ptr(), file.len(), message_type, number) })
+}
+
+pub fn find_by_halving(file: &[u8], message_type: u16, number: u32) -> Answer {
+    // SAFETY: the pointer and the length are of one slice.
+    unpack(unsafe { morlewen_find_by_halving(file.as_ptr(), file.len(), message_type, number) })
+}
+
+pub fn ascending(file: &[u8]) -> Answer {
+    // SAFETY: the pointer and the length are of one slice.
+    unpack(unsafe { morlewen_ascending(file.as_ptr(), file.len()) })
 }
 
 pub fn line(file: &[u8], record: usize, line: &mut [u64; LINE]) -> Answer {

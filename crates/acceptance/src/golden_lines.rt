@@ -17,9 +17,11 @@ use crate::reader::FILE_ROOM;
 use crate::reader::MEMORY;
 use crate::words::between;
 use crate::words::byte_at;
+use exports::goldens::morlewen_ascending;
 use exports::goldens::morlewen_check;
 use exports::goldens::morlewen_compare;
 use exports::goldens::morlewen_find;
+use exports::goldens::morlewen_find_by_halving;
 use exports::goldens::morlewen_line;
 use exports::goldens::morlewen_records;
 use exports::goldens::morlewen_retired_records;
@@ -47,6 +49,8 @@ fn golden_answer(code: u8, template: &[u8], numbers: &mut [u64; 16], file: &[u8]
         b'C' => step(file, record, numbers),
         b'E' => entry(file, record, numbers),
         b'G' => morlewen_retired_records(file),
+        b'H' => morlewen_find_by_halving(file, two_at(numbers, 0), four_at(numbers, 1)),
+        b'I' => morlewen_ascending(file),
         _ => each(code, template, file, numbers),
     }
 }

@@ -3,6 +3,7 @@
 
 mod feeds;
 mod frames;
+mod halvings;
 mod judges;
 mod works;
 
@@ -30,6 +31,7 @@ enum Side {
     Libdeflate,
     Before,
     OurReading,
+    OurFind,
 }
 
 impl Side {
@@ -42,6 +44,7 @@ impl Side {
             Side::Libdeflate => "libdeflate",
             Side::Before => "before",
             Side::OurReading => "our reading",
+            Side::OurFind => "our find",
         }
     }
 }
@@ -55,6 +58,8 @@ const COLUMNS: [Column; 4] =
 const COLUMNS_BEFORE: [Column; 2] = [(Side::Ours, Side::Before), (Side::Before, Side::Table)];
 /// For the feed and for frames.
 const COLUMNS_READING: [Column; 2] = [(Side::Ours, Side::Table), (Side::Ours, Side::OurReading)];
+/// The find that opens one record after the other, beside the one that halves.
+const COLUMNS_HALVING: [Column; 2] = [(Side::Ours, Side::Table), (Side::Ours, Side::OurFind)];
 /// The judge finds its CRC by division on both sides; the reading beside it does not.
 const JUDGE_COLUMNS: [Column; 2] = [(Side::Ours, Side::Division), (Side::Ours, Side::OurReading)];
 
@@ -68,6 +73,8 @@ const KINDS: [(u8, &str); 2] = [(0, "no integrity"), (8, "CRC")];
 
 pub fn command() -> ExitCode {
     calls();
+    println!();
+    halving();
     println!();
     feeding();
     println!();
@@ -111,6 +118,17 @@ fn calls() {
     works::checking("CRC, numbers 256 apart", LONGEST_MESSAGE, &file, before).measure(&columns);
     works::finding("CRC", LONGEST_MESSAGE, &file, before).measure(&columns);
     works::comparing(&file, &works::message(8, LONGEST_MESSAGE, u32::MAX), before).measure(&columns);
+}
+
+/// A name of a full file in order by halving, and by our find.
+fn halving() {
+    head(&COLUMNS_HALVING);
+    for (flags, kind) in KINDS {
+        let file = halvings::file(flags);
+        for sought in halvings::SOUGHT {
+            halvings::halving(kind, &file, sought).measure(&COLUMNS_HALVING);
+        }
+    }
 }
 
 /// A stream through the feed, in pieces; and the same messages read when each is whole already.

@@ -6,7 +6,7 @@ use super::envelopes::room;
 use super::printed::{buffer, refused};
 use super::words::Words;
 use crate::crc::Division;
-use crate::golden::{self, Step};
+use crate::golden::{self, Ascent, Bad, Search, Step};
 
 type Answer = Result<String, Complaint>;
 
@@ -17,19 +17,39 @@ pub fn record(words: &mut Words, name: &'static str) -> Result<usize, Complaint>
 
 pub fn check(words: &mut Words, file: &[u8]) -> Answer {
     words.end()?;
-    Ok(match golden::check::<Division>(file) {
-        Ok(count) => format!("records {count}"),
-        Err(bad) => format!("record {} {}", bad.record, refused(bad.refusal)),
-    })
+    Ok(golden::check::<Division>(file).map_or_else(bad, |count| format!("records {count}")))
+}
+
+/// A refusal with the record that it is about.
+fn bad(bad: Bad) -> String {
+    format!("record {} {}", bad.record, refused(bad.refusal))
 }
 
 pub fn find(words: &mut Words, file: &[u8]) -> Answer {
+    search(words, |message_type, number| golden::find::<Division>(file, message_type, number))
+}
+
+pub fn halve(words: &mut Words, file: &[u8]) -> Answer {
+    search(words, |message_type, number| golden::find_by_halving::<Division>(file, message_type, number))
+}
+
+/// The two searches are asked and answered alike.
+fn search(words: &mut Words, search: impl FnOnce(u16, u32) -> Search) -> Answer {
     let message_type = words.named("type", u16::MAX.into())? as u16;
     let number = words.named("number", u32::MAX.into())? as u32;
     words.end()?;
-    let search = golden::find::<Division>(file, message_type, number);
-    let answer = search.answer.map_or_else(refused, |record| format!("record {record}"));
-    Ok(format!("{answer} opened {}", search.opened))
+    let Search { opened, answer } = search(message_type, number);
+    let answer = answer.map_or_else(refused, |record| format!("record {record}"));
+    Ok(format!("{answer} opened {opened}"))
+}
+
+pub fn order(words: &mut Words, file: &[u8]) -> Answer {
+    words.end()?;
+    Ok(match golden::ascending::<Division>(file) {
+        Ok(Ascent::Ascends) => "ascending".to_string(),
+        Ok(Ascent::BreaksAt(record)) => format!("breaks at {record}"),
+        Err(refused) => bad(refused),
+    })
 }
 
 pub fn step(words: &mut Words, file: &[u8]) -> Answer {

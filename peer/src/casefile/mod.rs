@@ -33,7 +33,7 @@ struct Worked {
 
 type Command = fn(&mut Words, &mut Worked) -> Result<String, Complaint>;
 
-const COMMANDS: [(&str, Command); 29] = [
+const COMMANDS: [(&str, Command); 31] = [
     ("sum", |words, _| envelopes::sum(words)),
     ("read", |words, _| envelopes::read(words)),
     ("judge", |words, _| envelopes::judge(words)),
@@ -44,6 +44,8 @@ const COMMANDS: [(&str, Command); 29] = [
     ("sequence", |words, _| envelopes::sequence(words)),
     ("check", |words, worked| goldens::check(words, &worked.file)),
     ("find", |words, worked| goldens::find(words, &worked.file)),
+    ("halve", |words, worked| goldens::halve(words, &worked.file)),
+    ("order", |words, worked| goldens::order(words, &worked.file)),
     ("step", |words, worked| goldens::step(words, &worked.file)),
     ("walk", |words, worked| goldens::walk(words, &worked.file)),
     ("compare", |words, worked| goldens::compare(words, &worked.file)),

@@ -332,6 +332,60 @@ fn comparisons_and_new_records_answer_as_told() {
     ]);
 }
 
+/// M, number 2 and number 4: one name is put behind and before the others, and one is retired.
+#[test]
+fn halve_and_order_answer_as_told() {
+    let numbered = |number: u8| format!("file record 0417700100000000000000{number:02x} 00*9");
+    each(&[
+        ("halve empty: type 6000 number 1", "halve empty: refused 27 0 0 opened 0"),
+        ("order empty:", "order empty: ascending"),
+        (&numbered(1), "file: 512 bytes"),
+        ("order one:", "order one: ascending"),
+        ("halve one: type 6000 number 1", "halve one: record 0 opened 1"),
+        (&numbered(2), "file: 1024 bytes"),
+        (&numbered(4), "file: 1536 bytes"),
+        ("order it:", "order it: ascending"),
+        ("halve first: type 6000 number 1", "halve first: record 0 opened 2"),
+        ("halve middle: type 6000 number 2", "halve middle: record 1 opened 1"),
+        ("halve last: type 6000 number 4", "halve last: record 2 opened 2"),
+        ("halve between: type 6000 number 3", "halve between: refused 27 0 0 opened 2"),
+        ("halve above: type 65535 number 4294967295", "halve above: refused 27 0 0 opened 2"),
+        ("file change 512 80", "file: 1536 bytes"),
+        ("halve retired: type 6000 number 2", "halve retired: refused 27 0 0 opened 1"),
+        ("find retired: type 6000 number 2", "find retired: refused 27 0 0 opened 3"),
+        ("order retired:", "order retired: ascending"),
+        ("file change 525 01", "file: 1536 bytes"),
+        ("order two alike:", "order two alike: breaks at 1"),
+        ("file change 525 05", "file: 1536 bytes"),
+        ("order the last too early:", "order the last too early: breaks at 2"),
+        ("halve not opened: type 6000 number 4", "halve not opened: refused 27 0 0 opened 2"),
+        ("find not opened: type 6000 number 4", "find not opened: record 2 opened 3"),
+        ("file change 534 01", "file: 1536 bytes"),
+        ("halve bad: type 6000 number 1", "halve bad: refused 25 7 17 opened 1"),
+        ("order bad:", "order bad: record 1 refused 25 7 17"),
+        ("file zeros 1", "file: 1537 bytes"),
+        ("halve odd: type 6000 number 1", "halve odd: refused 21 0 0 opened 0"),
+        ("order odd:", "order odd: record 0 refused 21 0 0"),
+    ]);
+}
+
+#[test]
+fn halve_and_order_lines_that_are_not_understood_are_told() {
+    each(&[
+        ("halve", "line 1, column 6: a name and a colon expected"),
+        ("halve h:", "line 2, column 9: the word type expected"),
+        ("halve h: number 1 type 1", "line 3, column 10: the word type expected"),
+        ("halve h: type 65536 number 1", "line 4, column 15: a number from 0 to 65535 expected"),
+        ("halve h: type 1", "line 5, column 16: the word number expected"),
+        ("halve h: type 1 number 4294967296", "line 6, column 24: a number from 0 to 4294967295 expected"),
+        ("halve h: type 1 number 1 1", "line 7, column 26: the end of the line expected"),
+        ("order", "line 8, column 6: a name and a colon expected"),
+        ("order o: 0", "line 9, column 10: the end of the line expected"),
+        ("halves h: type 1 number 1", "line 10, column 1: a command expected"),
+        ("Order o:", "line 11, column 1: a command expected"),
+    ]);
+}
+
 /// M with a field of 1: 7, at the first byte of the field. A message of 20 bytes: 1, and how many there are.
 const SPOILED: &str = "041770010000000000000001 00*8 01";
 const CUT: &str = "041770010000000000000001 00*8";

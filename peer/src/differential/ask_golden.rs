@@ -1,10 +1,11 @@
 //! What is asked of both sides about golden files: counts, checks, walks, searches and comparisons.
-//! Beside each answer, what must hold between answers. Retiring a record is asked about in `ask_retire`.
+//! Beside each answer, what must hold between answers. Retiring a record is asked about in `ask_retire`,
+//! halving and the order of names in `ask_halving`.
 
 use super::lent::{array, hex};
 use super::run::Run;
 use super::tally::Operation;
-use super::{ask_retire, places};
+use super::{ask_halving, ask_retire, places};
 use crate::interface::{Answer, LINE, PART};
 use crate::{mirror, ours};
 use peer::golden::{Stored, PREFIX, RECORD};
@@ -30,6 +31,7 @@ pub fn file(run: &mut Run, file: &[u8]) {
     for (message_type, number) in sought(run, file) {
         find(run, file, message_type, number);
     }
+    ask_halving::some_names(run, file);
     ask_retire::some(run, file);
     run.holds("a file lent to be read stays as it was", before == file, &shown);
 }

@@ -4,7 +4,8 @@
 use super::ask_feed::{self, Feeds};
 use super::lent::hex;
 use super::run::Run;
-use super::{ask_envelope, ask_frame, ask_golden, ask_judge, feed_inputs, frame_inputs, inputs, judge_inputs};
+use super::{ask_envelope, ask_frame, ask_golden, ask_halving, ask_judge};
+use super::{feed_inputs, frame_inputs, inputs, judge_inputs};
 use crate::interface::Timing;
 use peer::crc::Division;
 use peer::envelope::{COMMON, FIELD, SHORTEST};
@@ -18,7 +19,7 @@ pub struct Family {
 }
 
 /// The quick ones first, so that each operation is met early.
-pub const FAMILIES: [Family; 21] = [
+pub const FAMILIES: [Family; 24] = [
     Family { name: "lateness", weight: 50, one: lateness },
     Family { name: "sequence", weight: 50, one: sequence },
     Family { name: "QoS joins", weight: 40, one: qos_join },
@@ -35,6 +36,9 @@ pub const FAMILIES: [Family; 21] = [
     Family { name: "golden files of odd lengths or many records", weight: 3, one: long_or_odd_file },
     Family { name: "golden files of 2 to 8 records with a name twice", weight: 40, one: short_doubled_file },
     Family { name: "golden files of many records with a name twice", weight: 3, one: long_doubled_file },
+    Family { name: "golden files of 0 to 20 records in ascending order", weight: 20, one: short_ascending_file },
+    Family { name: "golden files of many records in ascending order", weight: 3, one: long_ascending_file },
+    Family { name: "golden files of 2 to 20 records nearly in order", weight: 20, one: nearly_ascending_file },
     Family { name: "good orders", weight: 70, one: good_order },
     Family { name: "damage within four bytes of a CRC message", weight: 100, one: within_a_window },
     Family { name: "damaged messages", weight: 250, one: damaged },
@@ -147,6 +151,30 @@ fn long_doubled_file(run: &mut Run) {
     let records = if random.once_in(2) { MOST_RECORDS } else { random.between(9, MOST_RECORDS) };
     let file = inputs::doubled_file(random, records);
     ask_golden::file(run, &file);
+}
+
+fn short_ascending_file(run: &mut Run) {
+    let records = run.random.up_to(20);
+    let file = inputs::ascending_file(&mut run.random, records);
+    ask_halving::every_name(run, &file);
+}
+
+fn long_ascending_file(run: &mut Run) {
+    let records = run.random.between(21, MOST_RECORDS);
+    let file = inputs::ascending_file(&mut run.random, records);
+    // A search for each of many names takes its time.
+    if run.random.once_in(20) {
+        ask_halving::every_name(run, &file);
+    } else {
+        ask_halving::some_names(run, &file);
+    }
+}
+
+/// Two records have changed places, or a name comes twice.
+fn nearly_ascending_file(run: &mut Run) {
+    let records = run.random.between(2, 20);
+    let file = inputs::nearly_ascending_file(&mut run.random, records);
+    ask_halving::every_name(run, &file);
 }
 
 /// A record against the same message, a damaged one, another one, or no message at all.

@@ -297,6 +297,36 @@ pub fn doubled_file(random: &mut Random, records: usize) -> Vec<u8> {
     file_of(random, &orders)
 }
 
+/// So many orders in ascending order of their names; mostly of few types, and often with numbers next to each other.
+fn ascending_orders(random: &mut Random, count: usize) -> Vec<Order> {
+    let mut orders = orders(random, count);
+    if random.once_in(2) {
+        for (order, place) in orders.iter_mut().zip(0..) {
+            rename(order, 6000 + place / random.pick(&[3, 50]), place.into());
+        }
+    }
+    orders.sort_by_key(|order| (order.message_type, order.number));
+    orders
+}
+
+/// A file of so many records, in ascending order where they are good.
+pub fn ascending_file(random: &mut Random, records: usize) -> Vec<u8> {
+    let orders = ascending_orders(random, records);
+    file_of(random, &orders)
+}
+
+/// The same of two records or more, but two of them have changed places, or a later has the name of an earlier one.
+pub fn nearly_ascending_file(random: &mut Random, records: usize) -> Vec<u8> {
+    let mut orders = ascending_orders(random, records);
+    let (earlier, later) = two_places(random, records);
+    if random.once_in(2) {
+        orders.swap(earlier, later);
+    } else {
+        double(random, &mut orders, earlier, later);
+    }
+    file_of(random, &orders)
+}
+
 /// The first and the last of so many records, two next to each other, or any two.
 fn two_places(random: &mut Random, records: usize) -> (usize, usize) {
     let later = random.between(1, records - 1);

@@ -3,7 +3,8 @@
 //! differs, so a 32 from the archive fails the run, as does any other number that the peer does not give.
 
 use crate::interface::{Answer, RULES};
-use crate::interface::{ACKNOWLEDGMENT, AHEAD, BEHIND, BROKEN, DATA_MESSAGE, KEPT, NEXT, NOT_JUDGED, REPEAT};
+use crate::interface::{ACKNOWLEDGMENT, AHEAD, ASCENDS, BEHIND, BROKEN, DATA_MESSAGE, KEPT, NEXT, NOT_JUDGED, REPEAT};
+use peer::golden::MOST_OPENED;
 use std::collections::BTreeMap;
 use std::fmt;
 
@@ -24,6 +25,8 @@ pub enum Operation {
     RetiredRecords,
     Check,
     Find,
+    FindByHalving,
+    Ascending,
     Line,
     Step,
     Compare,
@@ -44,6 +47,8 @@ pub enum Outcome {
     Done(&'static str),
     Refused(u8),
     Unread(u8, u8),
+    /// How many records a search by halving opened.
+    Opened(u16),
     /// The judge's lowest broken rule.
     Lowest(u8),
     /// What became of a rule, as the number of its verdict.
@@ -56,6 +61,7 @@ impl fmt::Display for Outcome {
             Outcome::Done(word) => write!(out, "{word}"),
             Outcome::Refused(number) => write!(out, "{number}"),
             Outcome::Unread(number, reading) => write!(out, "{number}/{reading}"),
+            Outcome::Opened(records) => write!(out, "{records} opened"),
             Outcome::Lowest(rule) => write!(out, "lowest {rule}"),
             Outcome::Verdict(rule, KEPT) => write!(out, "{rule} kept"),
             Outcome::Verdict(rule, BROKEN) => write!(out, "{rule} broken"),
@@ -80,6 +86,8 @@ fn word(operation: Operation, answer: Answer) -> &'static str {
     match (operation, answer.value, answer.count) {
         (Operation::RetiredRecords, _, 0) => "none",
         (Operation::RetiredRecords, ..) => "some",
+        (Operation::Ascending, ASCENDS, _) => "ascends",
+        (Operation::Ascending, ..) => "breaks",
         (Operation::Step, 0, _) => "end",
         (Operation::Step | Operation::Line, ..) if answer.retired() != 0 => "retired",
         (Operation::Step | Operation::Line, ..) => "live",
@@ -124,11 +132,14 @@ impl Tally {
         required().into_iter().filter(|key| !self.came.contains_key(key)).collect()
     }
 
-    /// The answers that came up and must not: no message is longer than a frame can state, and of 26, 36, 37 and 38 each
-    /// is given by one operation alone.
+    /// The answers that came up and must not: no message is longer than a frame can state, halving opens no more than 8
+    /// records, the order of names is told where none is sought, and of 26, 36, 37 and 38 each is given by one operation
+    /// alone.
     pub fn impossible(&self) -> Vec<(Operation, Outcome)> {
         let impossible = |operation, outcome| match outcome {
             Outcome::Refused(69) => true,
+            Outcome::Opened(records) => usize::from(records) > MOST_OPENED,
+            Outcome::Refused(27) => operation == Operation::Ascending,
             Outcome::Refused(26) => operation != Operation::Check,
             Outcome::Refused(36 | 37) => operation != Operation::Retire,
             Outcome::Refused(38) => operation != Operation::Compare,
@@ -141,8 +152,9 @@ impl Tally {
 /// The ways in which an operation must have been done, and the numbers by which it must have refused.
 type Required = (Operation, &'static [&'static str], &'static [u8]);
 
-const REQUIRED: [Required; 28] = {
+const REQUIRED: [Required; 30] = {
     use Operation::{Acknowledge, First, Unwrap, Wrap};
+    use Operation::{Ascending, FindByHalving};
     use Operation::{Check, Compare, Crc, Distance, Find, Judge, JudgePlaces, Lateness, Line, Make};
     use Operation::{FeedEnd, FeedMessage, FeedRestart, FeedTake};
     use Operation::{QosJoin, QosSplit, Read, Records, Retire, RetiredRecords, Rewrite, Sequence, Step, Write};
@@ -162,6 +174,8 @@ const REQUIRED: [Required; 28] = {
         (RetiredRecords, &["none", "some"], &[21]),
         (Check, &["done"], &[21, 23, 24, 25, 26]),
         (Find, &["done"], &[21, 23, 24, 25, 27]),
+        (FindByHalving, &["done"], &[21, 23, 24, 25, 27]),
+        (Ascending, &["ascends", "breaks"], &[21, 23, 24, 25]),
         (Line, &["live", "retired"], &[21, 22, 23, 24, 25]),
         (Step, &["live", "retired", "end"], &[21, 23, 24, 25]),
         (Compare, &["same", "different"], &[21, 22, 23, 24, 25, 31, 38]),
@@ -181,7 +195,8 @@ const REQUIRED: [Required; 28] = {
 fn required() -> Vec<(Operation, Outcome)> {
     let lowest = (1..=RULES as u8).map(|rule| (Operation::JudgePlaces, Outcome::Lowest(rule)));
     let judged = judged().into_iter().map(|outcome| (Operation::Judge, outcome));
-    let mut required: Vec<_> = judged.chain(lowest).collect();
+    let opened = (1..=MOST_OPENED as u16).map(|records| (Operation::FindByHalving, Outcome::Opened(records)));
+    let mut required: Vec<_> = judged.chain(lowest).chain(opened).collect();
     for (operation, words, numbers) in REQUIRED {
         required.extend(words.iter().map(|word| (operation, Outcome::Done(word))));
         required.extend(numbers.iter().flat_map(|&number| refusals(number)).map(|outcome| (operation, outcome)));

@@ -8,32 +8,37 @@ use crate::envelope::{Kind, Service};
 use crate::golden::{LONGEST_MESSAGE, RECORD};
 use crate::random::Random;
 
+/// No bytes, a line with spaces all over, and one of all the others.
 pub fn sums(random: &mut Random) -> Vec<String> {
-    let (run, pattern, size) = (random.up_to(300), random.between(1, 5_000), random.between(1, 60));
-    let word = letters(random, 9);
-    let bytes = random.bytes(size);
-    let mut lines = vec!["sum no bytes:".to_string()];
-    let others = vec![
-        format!("sum {run} times one byte: {:02x}*{run}", random.byte()),
-        format!("sum a pattern of {pattern}: pattern*{pattern}"),
-        format!("sum nine letters: '{}'", String::from_utf8_lossy(&word)),
-        format!("sum {size} bytes at random: {}", spelled(random, &bytes)),
+    let gap = " ".repeat(random.between(2, 5));
+    let mut lines = vec![
+        "sum no bytes:".to_string(),
+        format!("{gap}sum{gap}spaces all over{gap}:{gap}{:02x}{gap}'a'{gap}", random.byte()),
     ];
+    let others = [plain_sums(random), unusual(random)].concat();
     lines.extend(some(random, 1, others));
     lines
 }
 
+fn plain_sums(random: &mut Random) -> Vec<String> {
+    let (run, pattern, size) = (random.up_to(300), random.between(1, 5_000), random.between(1, 60));
+    let word = letters(random, 9);
+    let bytes = random.bytes(size);
+    vec![
+        format!("sum {run} times one byte: {:02x}*{run}", random.byte()),
+        format!("sum a pattern of {pattern}: pattern*{pattern}"),
+        format!("sum nine letters: '{}'", String::from_utf8_lossy(&word)),
+        format!("sum {size} bytes at random: {}", spelled(random, &bytes)),
+    ]
+}
+
 /// Lines written in an unusual way that is right all the same.
-pub fn unusual(random: &mut Random) -> Vec<String> {
-    let gap = " ".repeat(random.between(2, 5));
+fn unusual(random: &mut Random) -> Vec<String> {
     let number = random.next() as u16;
-    let others = vec![
+    vec![
         format!("qos zeros before a number: split {}{number}", "0".repeat(random.between(1, 30))),
         format!("sum words of no bytes: 41*0 '' pattern*0 {:02X}*1 00*000", random.byte()),
-    ];
-    let mut lines = vec![format!("{gap}sum{gap}spaces all over{gap}:{gap}{:02x}{gap}'a'{gap}", random.byte())];
-    lines.extend(some(random, 1, others));
-    lines
+    ]
 }
 
 /// Each kind once, in turn with addresses and without; one of the three has 510 bytes.
@@ -88,6 +93,7 @@ pub fn write_line(random: &mut Random, name: &str, sketch: &Sketch, room: usize)
     words.iter().filter(|words| !words.is_empty()).map(String::as_str).collect::<Vec<_>>().join(" ")
 }
 
+/// One of the three kinds, or the longest addresses.
 pub fn good_writes(random: &mut Random) -> Vec<String> {
     let mut lines = Vec::new();
     for kind in KINDS {
@@ -97,11 +103,10 @@ pub fn good_writes(random: &mut Random) -> Vec<String> {
         let (more, told) = random.pick(&[(0, "just enough room"), (spare, "more room than it takes")]);
         lines.push(write_line(random, &format!("{told}, {}", kind_name(kind)), &sketch, sketch.length() + more));
     }
-    lines = some(random, 2, lines);
     let mut sketch = Sketch::draw(random, Kind::Crc, true);
     (sketch.source, sketch.destination) = (letters(random, 63), letters(random, 63));
     lines.push(write_line(random, "two addresses of 63 letters", &sketch, sketch.length()));
-    lines
+    some(random, 1, lines)
 }
 
 pub fn bad_writes(random: &mut Random) -> Vec<String> {
@@ -117,10 +122,10 @@ pub fn bad_writes(random: &mut Random) -> Vec<String> {
         }),
         ("a stray integrity number", |random, sketch| sketch.integrity = random.between(1, 99) as u32),
     ];
-    // Of the three ways to spoil an address two are drawn.
-    let left_out = random.between(1, 3);
+    // Of the three ways to spoil an address one is drawn.
+    let drawn = [0, random.between(1, 3), 4];
     let mut lines = Vec::new();
-    for (_, (name, spoil)) in spoilers.into_iter().enumerate().filter(|(place, _)| *place != left_out) {
+    for (name, spoil) in drawn.map(|place| spoilers[place]) {
         let kind = random.pick(&KINDS[..2]);
         let mut sketch = Sketch::draw(random, kind, true);
         spoil(random, &mut sketch);

@@ -35,18 +35,27 @@ fn any_mark(random: &mut Random) -> usize {
     }
 }
 
-/// What a `find` of this sketch's message is asked with.
+/// What a `find` or a `halve` of this sketch's message is asked with.
 pub fn sought(sketch: &Sketch) -> String {
     format!("type {} number {}", sketch.message_type, sketch.number)
 }
 
-/// Three good records, the last of them short and one of them retired, and everything asked about them.
+/// Three names of different numbers, which go to the sketches in ascending order.
+fn name_in_order(random: &mut Random, sketches: &mut [Sketch; 3]) -> u32 {
+    let number = random.number();
+    let numbers = [0, 1, 2].map(|place| number.wrapping_add(place));
+    let mut names: Vec<(u16, u32)> = sketches.iter().map(|sketch| sketch.message_type).zip(numbers).collect();
+    names.sort();
+    for (sketch, name) in sketches.iter_mut().zip(names) {
+        (sketch.message_type, sketch.number) = name;
+    }
+    number
+}
+
+/// Three good records in ascending order, the last of them short and one of them retired, and everything asked about them.
 pub fn good_file(random: &mut Random) -> Scene {
     let mut sketches = [Sketch::draw(random, Kind::Crc, true), Sketch::any(random), Sketch::short(random)];
-    let number = random.number();
-    for (sketch, place) in sketches.iter_mut().zip(0..) {
-        sketch.number = number.wrapping_add(place);
-    }
+    let number = name_in_order(random, &mut sketches);
     let (at, past) = (random.up_to(2), random.pick(&[3, 4, 128, u64::MAX]));
     let retired = (at + random.between(1, 2)) % 3;
     let mut scene = vec!["file new".to_string()];
@@ -55,14 +64,17 @@ pub fn good_file(random: &mut Random) -> Scene {
         scene.push(line(random, &sketch.message()));
     }
     let not_there = format!("type {} number {}", sketches[at].message_type, number.wrapping_sub(1));
-    let not_found = vec![
-        format!("find what is not there: {not_there}"),
-        format!("find what is retired: {}", sought(&sketches[retired])),
-    ];
-    let whole = vec!["walk three good records:".to_string(), "list three good records:".to_string()];
+    let not_found = |search: &str| {
+        vec![
+            format!("{search} what is not there: {not_there}"),
+            format!("{search} what is retired: {}", sought(&sketches[retired])),
+        ]
+    };
     scene.extend([
         "check three good records:".to_string(),
+        "order three good records:".to_string(),
         format!("find record {at} of three: {}", sought(&sketches[at])),
+        format!("halve record {at} of three: {}", sought(&sketches[at])),
         format!("step at the retired one of three: at {retired}"),
         format!("step past the last: at {past}"),
         format!("entry of record {at}: at {at}"),
@@ -71,8 +83,8 @@ pub fn good_file(random: &mut Random) -> Scene {
         format!("flips of message {at}: record {at}"),
         "pairs of a short message: record 2".to_string(),
     ]);
-    scene.extend(some(random, 1, not_found));
-    scene.extend(some(random, 1, whole));
+    scene.extend(some(random, 1, not_found("find")));
+    scene.extend(some(random, 1, not_found("halve")));
     scene.extend(comparisons(random, at, &sketches[at].message()));
     scene
 }
@@ -160,11 +172,14 @@ fn bad_file(random: &mut Random, refusal: u8, more: u8) -> Scene {
     scene.extend([
         format!("check {name}:"),
         format!("find behind {name}: {}", sought(&last)),
-        format!("step at {name}: at 1"),
+        format!("halve about {name}: {}", sought(random.pick(&[&first, &last]))),
         format!("entry of {name}: at 1"),
         format!("compare with {name}: record 1 list 5 6 with {}", spelled(random, &first.message())),
     ]);
-    let whole = vec![format!("walk past {name}:"), format!("list {name}:")];
+    let whole = vec![format!("walk past {name}:"), format!("list {name}:"), format!("order {name}:")];
+    if refusal != 25 {
+        scene.push(format!("step at {name}: at 1"));
+    }
     let spoiled = vec![
         format!("{} of {name}: record 1", random.pick(&["edits", "flips", "pairs"])),
         format!("flips beside {name}: record {}", random.pick(&[0, 2])),
@@ -178,8 +193,14 @@ fn bad_file(random: &mut Random, refusal: u8, more: u8) -> Scene {
     scene
 }
 
-/// A file whose length is no multiple of 512.
-pub fn odd_file(random: &mut Random) -> Scene {
+/// An empty file, and what it is when bytes come to it; of one of the two more is asked.
+pub fn empty_and_odd_file(random: &mut Random) -> Scene {
+    let more = random.once_in(2);
+    [empty_file(random, usize::from(more)), odd_file(random, usize::from(!more))].concat()
+}
+
+/// A file whose length is no multiple of 512, made of an empty one.
+fn odd_file(random: &mut Random, more: usize) -> Scene {
     let sketch = Sketch::any(random);
     let (size, at) = (random.between(1, RECORD - 1), random.up_to(5));
     let few = random.up_to(size.min(8));
@@ -190,18 +211,19 @@ pub fn odd_file(random: &mut Random) -> Scene {
         format!("retire in an odd length: record {at} room {}", random.up_to(9)),
     ];
     let mut scene = vec![
-        "file new".to_string(),
         record_line(random, &sketch.message()),
         format!("file bytes {} 00*{}", spelled(random, &bytes), size - bytes.len()),
         "check an odd length:".to_string(),
         format!("find in an odd length: {}", sought(&sketch)),
+        format!("halve in an odd length: {}", sought(&sketch)),
+        "order an odd length:".to_string(),
         format!("step at {at} in an odd length: at {at}"),
         "walk an odd length:".to_string(),
         format!("entry {at} in an odd length: at {at}"),
         "list an odd length:".to_string(),
         format!("compare in an odd length: record 0 list 8*2 with {}", spelled(random, &sketch.message())),
     ];
-    scene.extend(some(random, 1, others));
+    scene.extend(some(random, more, others));
     scene
 }
 
@@ -222,7 +244,7 @@ pub fn long_file(random: &mut Random) -> Scene {
     scene
 }
 
-pub fn empty_file(random: &mut Random) -> Scene {
+fn empty_file(random: &mut Random, more: usize) -> Scene {
     let sketch = Sketch::any(random);
     let mut scene = vec![
         "file new".to_string(),
@@ -233,13 +255,15 @@ pub fn empty_file(random: &mut Random) -> Scene {
     ];
     let others = vec![
         "edits in an empty file: record 0".to_string(),
+        format!("halve in an empty file: {}", sought(&sketch)),
+        "order an empty file:".to_string(),
         "retired in an empty file:".to_string(),
         format!("retire in an empty file: record 0 room {}", random.up_to(2)),
         format!("step in an empty file: at {}", random.up_to(2)),
         "entry in an empty file: at 0".to_string(),
         format!("compare in an empty file: record 0 list 4 with {}", spelled(random, &sketch.message())),
     ];
-    scene.extend(some(random, 1, others));
+    scene.extend(some(random, more, others));
     scene
 }
 

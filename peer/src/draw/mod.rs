@@ -49,9 +49,8 @@ pub fn cases(options: &Options) -> String {
 }
 
 /// Lines that stand on their own, each of which may come anywhere.
-const LINES_DRAWN: [fn(&mut Random) -> Vec<String>; 24] = [
+const LINES_DRAWN: [fn(&mut Random) -> Vec<String>; 23] = [
     envelope_lines::sums,
-    envelope_lines::unusual,
     envelope_lines::good_reads,
     envelope_lines::bad_reads,
     judge_lines::judges,
@@ -77,11 +76,10 @@ const LINES_DRAWN: [fn(&mut Random) -> Vec<String>; 24] = [
 ];
 
 /// Lines about one golden file or one feed, which stay together.
-const SCENES_DRAWN: [fn(&mut Random) -> Vec<String>; 7] = [
+const SCENES_DRAWN: [fn(&mut Random) -> Vec<String>; 6] = [
     golden_scenes::good_file,
-    golden_scenes::odd_file,
+    golden_scenes::empty_and_odd_file,
     golden_scenes::long_file,
-    golden_scenes::empty_file,
     retired_scenes::retired_file,
     feed_scenes::good_stream,
     feed_scenes::pieces,
@@ -125,7 +123,7 @@ mod tests {
     }
 
     /// What a line that begins so must hold in some answer of every drawn file; `..` stands for numbers that are drawn.
-    const MET: [(&str, &str); 46] = [
+    const MET: [(&str, &str); 49] = [
         ("sum", "no bytes: 0 00000000|spaces all over"),
         ("read", "integrity none|integrity crc|integrity application| unaddressed | ttl "),
         ("read", ": refused 1 |: refused 2 0|: refused 3 4|: refused 4 16|: refused 5 5|: refused 6 21|: refused 7 "),
@@ -151,6 +149,9 @@ mod tests {
         ("retire ", ": done [|: refused 36 0 0 [|: refused 37 0 0 ["),
         ("find", "record 0 opened 1|refused 27 0 0 opened 3|refused 27 0 0 opened 0|refused 21 0 0 opened 0"),
         ("find", "refused 23 0 0 opened 2|refused 24 0 0 opened 2|refused 25 |live one of two: record 1 opened 2"),
+        ("halve", ": record .. opened |: refused 27 0 0 opened |: refused 21 0 0 opened 0|: refused 23 0 0 opened 1"),
+        ("halve", ": refused 24 0 0 opened 1|: refused 25 .. opened 1"),
+        ("order", ": ascending|: breaks at 1|: record 0 refused 21 0 0|: record 1 refused 23 0 0"),
         ("step", ": message .. retired next |: end next |refused 21 0 0 next "),
         ("step", "refused 23 0 0 next 2|refused 24 0 0 next 2"),
         ("walk", ", refused 23 0 0, message 1026 .. retired, end|: refused 21 0 0|: end"),
@@ -216,7 +217,7 @@ mod tests {
         }
     }
 
-    /// Whatever is drawn to be understood is: 18 lines of a round are not, and one record has no room.
+    /// Whatever is drawn to be understood is: 17 lines of a round are not, and one record has no room.
     #[test]
     fn only_the_lines_meant_so_are_not_understood() {
         let length = round(&mut Random::new(0)).len();
@@ -224,8 +225,8 @@ mod tests {
         for seed in 0..20 {
             let printed = printed(seed, length);
             let told: Vec<&str> = printed.lines().filter(|line| line.starts_with("line ")).collect();
-            assert_eq!(told.len(), 19, "seed {seed}: {told:#?}");
-            assert_eq!(printed.lines().count(), length - 2, "two comments print nothing");
+            assert_eq!(told.len(), 18, "seed {seed}: {told:#?}");
+            assert_eq!(printed.lines().count(), length - 1, "a comment prints nothing");
         }
     }
 

@@ -5,15 +5,18 @@ use super::sketch::Sketch;
 use super::some;
 use crate::random::Random;
 
-/// Comments, which print nothing and are counted all the same.
+/// A comment, which prints nothing and is counted all the same.
 pub fn comments(random: &mut Random) -> Vec<String> {
-    vec![format!("{}# a comment: it prints nothing", " ".repeat(random.up_to(3))), " ".repeat(random.up_to(5))]
+    let lines =
+        vec![format!("{}# a comment: it prints nothing", " ".repeat(random.up_to(3))), " ".repeat(random.up_to(5))];
+    some(random, 1, lines)
 }
 
 pub fn commands_and_names(random: &mut Random) -> Vec<String> {
     let spaces = " ".repeat(random.up_to(3));
-    let command = random.pick(&["sum", "read", "judge", "unwrap", "walk", "check", "list", "retire", "retired"]);
-    let no_command = random.pick(&["reed", "Sum", "checks", "wal", "files", "0", "retir", "retires"]);
+    let command =
+        random.pick(&["sum", "read", "judge", "unwrap", "walk", "check", "list", "retire", "retired", "order"]);
+    let no_command = random.pick(&["reed", "Sum", "checks", "wal", "files", "0", "retir", "retires", "halves"]);
     let names = vec![
         format!("{spaces}{command} a name without its colon"),
         format!("{spaces}{command}{spaces} : spaces for a name"),
@@ -32,7 +35,7 @@ pub fn words(random: &mut Random) -> Vec<String> {
         if random.once_in(2) { format!("file {other} 00") } else { format!("file{spaces}") },
     ];
     let others = vec![
-        format!("find the number before the type: number {number} type 1"),
+        format!("{} the number before the type: number {number} type 1", random.pick(&["find", "halve"])),
         format!("rewrite nothing behind the room: room {}{spaces}", random.up_to(99)),
         format!("compare no message: record 0 list {number} 2*{}{spaces}", random.up_to(20)),
         format!("sequence no second number: from {number} {other} {number}"),
@@ -67,6 +70,7 @@ pub fn numbers(random: &mut Random) -> Vec<String> {
     let mut lines = vec![format!("qos a part too large: join 1 2 3 {} 5", 256 + over)];
     let others = vec![
         format!("step not a number that fits: at {}", not_a_number(random)),
+        format!("halve a type too large: type 6553{} number {}", random.between(6, 9), random.number()),
         format!("qos a QoS too large: split 6553{}", random.between(6, 9)),
         format!("late a TTL too large: ttl 6553{} entry 1 clock 2", random.between(6, 9)),
         format!("late an entry not a number that fits: ttl 1 entry {} clock 2", not_a_number(random)),
@@ -81,7 +85,7 @@ pub fn numbers(random: &mut Random) -> Vec<String> {
         format!("wrap a COMMID too large: commid 429496729{} room 34 of 00", random.between(6, 9)),
         format!("acknowledge a room too large: commid 1 of 2 room {}", 1_025 + over),
     ];
-    lines.extend(some(random, 2, others));
+    lines.extend(some(random, 1, others));
     lines
 }
 
@@ -109,13 +113,14 @@ pub fn bytes(random: &mut Random) -> Vec<String> {
 }
 
 pub fn left_over(random: &mut Random) -> Vec<String> {
-    let command = random.pick(&["check", "walk", "list", "retired", "restart", "end"]);
+    let command = random.pick(&["check", "walk", "list", "order", "retired", "restart", "end"]);
     let word = random.pick(&["now", "0", "#", ":"]);
     let lines = vec![
         format!("{command} a word left over:  {word}"),
         format!("qos a sixth number: join 1 2 3 4 5 {}", random.byte()),
         format!("late a word behind the clock: ttl 1 entry 2 clock 3 {word}"),
         format!("file new {word}"),
+        format!("halve a word behind the number: type 1 number 2 {word}"),
         format!("flips two records: record 0 {word}"),
         format!("retire a word behind the room: record 0 room 512 {word}"),
         format!("acknowledge a word behind the room: commid 1 of 2 room 17 {word}"),

@@ -27,6 +27,7 @@ pub fn retired_file(random: &mut Random) -> Scene {
         format!("check with byte {place} damaged:"),
         change(message[place]),
         format!("check with byte {place} mended, a name that comes twice:"),
+        "order a name that comes twice:".to_string(),
     ];
     scene.extend(doubled(random, &earlier));
     scene.push(format!("file change 0 {:04x}", MARK | message.len()));
@@ -38,6 +39,7 @@ pub fn retired_file(random: &mut Random) -> Scene {
 fn doubled(random: &mut Random, earlier: &Sketch) -> Scene {
     let others = vec![
         format!("find a name that comes twice: {}", sought(earlier)),
+        format!("halve a name that comes twice: {}", sought(earlier)),
         "step at the later of two: at 1".to_string(),
         "walk a name that comes twice:".to_string(),
         "entry of the later of two: at 1".to_string(),
