@@ -240,12 +240,15 @@ uint64_t morlewen_check(const uint8_t *file, size_t length);
 uint64_t morlewen_find(const uint8_t *file, size_t length, uint16_t type, uint32_t number);
 
 /* Finds by halving, for a file that passes morlewen_check and of which morlewen_ascending says that it is in order: there it gives
- * the record that morlewen_find gives, or 27 where that gives 27, and it opens at most 8 records. Of the records from `first` up to
- * `end`, which is one past the last of them, it opens the one at (first + end) / 2, rounded down. A match ends it, by 27 where it is
- * retired. Else it goes on with the records behind that one where that one's type and number come before those sought, and with
- * those before it where they come after. In any other file a record that it gives is still good, live and of this type and
- * number, and 27 says nothing about the records that were not opened. `count` is how many were opened, whatever the answer.
- * Done: the record's number is in `value`. Refused: 21, 23 to 25 for a bad record that was opened, or 27. */
+ * the record that morlewen_find gives, or 27 where that gives 27. In any file it opens at most 8 records. Of the
+ * records from `first` up to `end`, which is one past the last of them and at first the count of all, it opens the one
+ * at (first + end) / 2, rounded down, and where there are none it answers 27. A bad record ends it, and so does a
+ * match, by 27 where it is retired. Else it goes on with the records behind that one where that one's type and number
+ * come before those sought, and with those before it where they come after. In any other file a record that it gives is
+ * still good, live and of this type and number, and 27 says nothing about the records that were not opened. `count` is
+ * how many were opened, whatever the answer.
+ * Done: the record's number is in `value`. Refused: 21, 23 to 25 for a bad record that was opened, whose number is not
+ * told, or 27. */
 uint64_t morlewen_find_by_halving(const uint8_t *file, size_t length, uint16_t type, uint32_t number);
 
 /* Whether the records, retired ones too, stand in strictly ascending order of type, then message number. It opens them from the
