@@ -10,6 +10,8 @@
 // leaves in the two words after is the word itself, shifted eight ways: `word_step`, by twelve shifts in place of a table.
 // Near the end there is no room for it. The last bytes, eighteen at most, are taken four at a time and then one by one: they are
 // shifted out, and what their bit steps leave, 32 steps at once (`settle`), is added.
+#![tactic(auto)]
+
 ghost use Rattle.std.specs.Prelude.{◌≡◌, ◌+◌, ◌^◌, ◌≤◌, ◌<◌, length, take, drop};
 ghost use Rattle.sum.specs.Crc.{all_ones, bit_steps, state_after};
 ghost use Rattle.sum.specs.Promise.{Sums};
