@@ -1,5 +1,7 @@
 // Runs the cases that standard input holds, one to a line, and prints an answer for each: docs/CASES.md says how.
 // Every answer was worked out by a proved function; the gate holds what is printed to a stored file, and to what the peer prints.
+#![tactic(auto)]
+
 mod byte_words;
 mod changes;
 mod commands;

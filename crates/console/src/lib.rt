@@ -1,5 +1,7 @@
 // What a tool at a terminal needs: pages filled in by a template, tables of words, numbers out of digits, and files taken whole.
 // Rests on the kit's `bytes`, `io`, `libc` and `os`, and knows nothing of messages.
+#![tactic(auto)]
+
 pub mod decimal;
 pub mod files;
 pub mod filling;

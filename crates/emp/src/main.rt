@@ -1,5 +1,7 @@
 // The operator's tool: what a golden file, a message, a frame or any other file holds, in words or plainly. Files are only read.
 // Rests on the libraries, which decide every answer, and on `wording` and `console`, by which it is told.
+#![tactic(auto)]
+
 mod answering;
 mod arrival;
 mod comparing;

@@ -1,5 +1,7 @@
 // EMP envelopes: reading any bytes, what the first of them announce, writing a message, and what an accepted envelope tells (flags, QoS, lateness, sequence).
 // Rests on the crate `sum`, by its promise alone.
+#![tactic(auto)]
+
 mod addresses;
 pub mod announcer;
 pub mod fields;

@@ -1,5 +1,7 @@
 // The public operations of the layers below, in numbers and slices, for programs in C and Rust (include/morlewen.h).
 // Rests on the crates `sum`, `envelope`, `judge`, `golden`, `feed`, `frame` and `sender`, by their promises and the laws that they export.
+#![tactic(auto)]
+
 mod answers;
 pub mod envelopes;
 pub mod feeds;

@@ -1,5 +1,7 @@
 // Messages as they arrive: a feed takes pieces of any size and finds each message the moment its last byte is in.
 // Rests on the crate `envelope`, by its promises and the laws that it exports.
+#![tactic(auto)]
+
 pub mod advancer;
 pub mod closer;
 pub mod feeder;

@@ -1,5 +1,7 @@
 // Class D frames: a good EMP message wrapped for the link, a frame unwrapped, and acknowledgments both ways.
 // Rests on the crate `envelope`, by its promises and the laws that it exports.
+#![tactic(auto)]
+
 pub mod capture;
 pub mod layout;
 pub mod refusal;

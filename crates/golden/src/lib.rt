@@ -1,5 +1,7 @@
 // The golden file: check, walk, find, find by halving, compare, make a record, retire one, and what a listing needs. The file is only read.
 // Rests on the crate `envelope`, by its promises and the laws that it exports.
+#![tactic(auto)]
+
 pub mod checker;
 pub mod comparer;
 mod file;

@@ -1,4 +1,6 @@
 // Lists a golden file from standard input: the count, then a line for each record.
+#![tactic(auto)]
+
 use golden::{Counting, Entry, Record, Refusal, count, entry_at};
 use libc::{STDIN_FILENO, STDOUT_FILENO};
 

@@ -1,1 +1,3 @@
 // The acceptance sheet as theorems: no function, only laws, in proofs/.
+#![tactic(auto)]
+

@@ -1,5 +1,7 @@
 // The words of the operator's tool: how its words are taken apart, every template of its answers, every refusal, and its help.
 // Rests on `console`. What is told is decided by others, and comes as numbers, parts of bytes, and rows of tables.
+#![tactic(auto)]
+
 pub mod arguments;
 pub mod commands;
 pub mod files;
