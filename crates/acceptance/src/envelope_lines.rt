@@ -132,7 +132,7 @@ fn verdict(verdicts: &[u8; RULES], place: usize) -> u64 {
     wide(verdicts[place % RULES])
 }
 
-#[derive(Drop)]
+#[derive(Clone, Copy)]
 struct Given {
     message_type: u16,
     version: u8,

@@ -21,7 +21,7 @@ pub const TOO_LARGE: u8 = 5;
 
 pub const TAKEN: u8 = 18;
 
-#[derive(Drop)]
+#[derive(Clone, Copy)]
 pub struct Decimal {
     pub value: u64,
     pub verdict: u8,

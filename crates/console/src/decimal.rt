@@ -3,7 +3,7 @@
 ghost use Rattle.std.specs.Prelude.{◌≡◌, ◌+◌, ◌-◌, ◌*◌, nat_le};
 ghost use Rattle.console.specs.Decimal.{is_digit, all_digits, well_formed, value_of, up_to, told_decimal, Parses};
 
-#[derive(Drop)]
+#[derive(Clone, Copy)]
 pub enum Decimal {
     Number(u64),
     NotANumber,

@@ -3,7 +3,7 @@
 use check::same;
 use libc::STDIN_FILENO;
 
-#[derive(Drop)]
+#[derive(Clone, Copy)]
 pub enum Content {
     Size(usize),
     // errno says why
@@ -12,7 +12,7 @@ pub enum Content {
 }
 
 // One read: how many bytes there are now, or why there are no more.
-#[derive(Drop)]
+#[derive(Clone, Copy)]
 enum Turn {
     Taken(usize),
     End,

@@ -7,7 +7,7 @@ use crate::marks::{number_at, put, taken_by};
 use std::num::{wrapping_add_u64, wrapping_add_usize};
 
 // How far it is: the bytes on the page, the numbers taken, and of a choice the part that is wanted and the one that it is at.
-#[derive(Drop)]
+#[derive(Clone, Copy)]
 struct Filling {
     size: usize,
     next: usize,

@@ -19,7 +19,7 @@ const ACKNOWLEDGED: u64 = 3;
 const FAILED: u64 = 5;
 
 // What has been told, and where it stands.
-#[derive(Drop)]
+#[derive(Clone, Copy)]
 pub struct Book {
     // the lines before the one that is on its way, and the bytes of that one
     pub lines: u64,

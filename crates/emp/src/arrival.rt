@@ -8,7 +8,7 @@ use golden::{Comparison, Finding, Name, compare, find};
 use wording::{Manner, Status, rows, tell};
 
 // One of several words of a template, and the numbers that go with them.
-#[derive(Drop)]
+#[derive(Clone, Copy)]
 struct Wording {
     words: u64,
     record: usize,

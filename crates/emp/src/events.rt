@@ -7,7 +7,7 @@ const BLANK: u8 = b' ';
 
 const LARGEST_COMMID: u64 = 4_294_967_295;
 
-#[derive(Drop)]
+#[derive(Clone, Copy)]
 pub enum Event {
     Submit(u32),
     Ack(u32),

@@ -17,7 +17,7 @@ use wording::{Manner, Status, rows, tell};
 const ROOM: usize = LEAST_SIZE + MOST;
 
 // Where a frame stands in its file: its number, or 0 where it is alone and goes without, and its first place.
-#[derive(Drop)]
+#[derive(Clone, Copy)]
 struct Spot {
     frame: usize,
     place: usize,

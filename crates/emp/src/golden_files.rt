@@ -11,7 +11,7 @@ use wording::refusals::{
 use wording::{Manner, Status, rows, tell};
 
 // A retired record of a name, or none.
-#[derive(Drop)]
+#[derive(Clone, Copy)]
 pub enum NamedRetired {
     At(usize),
     Nowhere,

@@ -11,14 +11,14 @@ use wording::{Manner, Status, rows, tell};
 const NOT_JUDGED: u64 = 2;
 
 // A verdict, as the templates choose by it, and the place where the rule is broken.
-#[derive(Drop)]
+#[derive(Clone, Copy)]
 struct Ruling {
     verdict: u64,
     place: u64,
 }
 
 // The sizes that a header states, of which bytes that are not there count as 0.
-#[derive(Drop)]
+#[derive(Clone, Copy)]
 struct Sizes {
     variable: usize,
     data: usize,

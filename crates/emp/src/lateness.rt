@@ -20,7 +20,7 @@ const IN_TIME_FOR_LONG: u64 = 4;
 const TEN: u64 = 10;
 
 // What is told: which part of the choice, its seconds, of which the last digit may stand apart, and whether the clock is before the entry.
-#[derive(Drop)]
+#[derive(Clone, Copy)]
 struct Seconds {
     part: u64,
     seconds: u64,

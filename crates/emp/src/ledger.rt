@@ -10,7 +10,7 @@ const COMMIDS: u64 = 4_294_967_296;
 
 const FAILED: u8 = 128;
 
-#[derive(Drop)]
+#[derive(Clone, Copy)]
 pub struct Entry {
     pub commid: u64,
     pub times: u64,

@@ -17,7 +17,7 @@ use wording::{Manner, Status};
 const LINE: usize = 32;
 
 // How far it is.
-#[derive(Drop)]
+#[derive(Clone, Copy)]
 pub struct Sending {
     pub bench: Bench,
     pub book: Book,

@@ -14,7 +14,7 @@ use wording::refusals::{MESSAGE, OF_STREAM, Subject};
 use wording::{Manner, Status};
 
 // How far a stream is: the feed without the bytes that it keeps, and what went by.
-#[derive(Drop)]
+#[derive(Clone, Copy)]
 pub struct Stream {
     pub count: usize,
     pub standing: Standing,
@@ -28,7 +28,7 @@ pub struct Stream {
 }
 
 // A stream goes on, by so many bytes, or has ended.
-#[derive(Drop)]
+#[derive(Clone, Copy)]
 enum Course {
     Going { stream: Stream, used: usize },
     Ended(Status),

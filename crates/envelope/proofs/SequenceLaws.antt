@@ -25,7 +25,7 @@ module _ (z : ℤ) (fits : SFits w32 z) where
   by_bits n e = sym (to_z-of_z fits) ∙ ap (to_z w32) e
 
   widened : to_z w64 (of_z w64 (to_z w32 (of_z w32 z))) ≡ z
-  widened = ap (λ (x : ℤ). to_z w64 (of_z w64 x)) (to_z-of_z fits) ∙ to_z-of_z (sfits_widen tt fits)
+  widened = ap (λ (x : ℤ). to_z w64 (of_z w64 x)) (to_z-of_z fits) ∙ to_z-of_z {w = w64} (sfits_widen tt fits)
 
 -- 2 and up
 pub record Above (z : ℤ) : Type 0 where

@@ -8,14 +8,14 @@ ghost use Rattle.envelope.specs.Helpers.{unless, told_ends, told_found_addressin
 use crate::fields::{Addressing, Envelope, Part};
 use crate::numbers::two_at;
 
-#[derive(Drop)]
+#[derive(Clone, Copy)]
 pub(crate) enum FoundAddressing {
     Refused,
     Good(Addressing),
 }
 
 // The sizes of source and destination, without their zeros.
-#[derive(Drop)]
+#[derive(Clone, Copy)]
 enum Ends {
     Refused,
     Sizes(usize, usize),

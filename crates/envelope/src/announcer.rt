@@ -9,7 +9,7 @@ use crate::fields::Envelope;
 use crate::numbers::{three_at, wide};
 use crate::reader::{Heading, Refusal, judge_heading};
 
-#[derive(Drop)]
+#[derive(Clone, Copy)]
 pub enum Announcement {
     // fewer bytes than a header has
     Unfinished,

@@ -2,7 +2,7 @@
 ghost use Rattle.envelope.specs.Told.{Slices, Holds};
 
 // A part of the bytes lent: its first place and its size.
-#[derive(Drop)]
+#[derive(Clone, Copy)]
 pub struct Part {
     pub place: usize,
     pub size: usize,
@@ -27,7 +27,7 @@ impl Part {
 }
 
 // The fields of the fixed header that a sender chooses. Header version, V and D follow from the rest.
-#[derive(Drop)]
+#[derive(Clone, Copy)]
 pub struct Header {
     pub message_type: u16,
     pub version: u8,
@@ -37,7 +37,7 @@ pub struct Header {
 }
 
 // An end is a part without its closing zero.
-#[derive(Drop)]
+#[derive(Clone, Copy)]
 pub enum Addressing {
     Absent,
     Present {
@@ -48,14 +48,14 @@ pub enum Addressing {
     },
 }
 
-#[derive(Drop)]
+#[derive(Clone, Copy)]
 pub enum Integrity {
     None,
     Crc(u32),
     Application(u32),
 }
 
-#[derive(Drop)]
+#[derive(Clone, Copy)]
 pub struct Envelope {
     pub header: Header,
     pub addressing: Addressing,

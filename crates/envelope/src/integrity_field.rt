@@ -11,7 +11,7 @@ use crate::fields::{Envelope, Integrity};
 use crate::flags::{KIND_CRC, KIND_NONE};
 use crate::numbers::four_at;
 
-#[derive(Drop)]
+#[derive(Clone, Copy)]
 pub(crate) enum FoundIntegrity {
     Refused,
     Good(Integrity),

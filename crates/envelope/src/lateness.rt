@@ -4,7 +4,7 @@ ghost use Rattle.envelope.specs.Lateness.{late_after, JudgesLateness};
 
 use crate::fields::{Addressing, Envelope};
 
-#[derive(Drop)]
+#[derive(Clone, Copy)]
 pub enum Lateness {
     NoClock,
     Late,

@@ -1,7 +1,7 @@
 // The QoS field of a variable header and its five numbers.
 ghost use Rattle.envelope.specs.Qos.{Splits, Joins};
 
-#[derive(Drop)]
+#[derive(Clone, Copy)]
 pub struct Qos {
     pub service_request: u8,
     pub special_handling: u8,
@@ -10,7 +10,7 @@ pub struct Qos {
     pub class: u8,
 }
 
-#[derive(Drop)]
+#[derive(Clone, Copy)]
 pub enum Joining {
     Joined(u16),
     DoesNotFit,

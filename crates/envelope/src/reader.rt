@@ -13,7 +13,7 @@ use crate::integrity_field::{FoundIntegrity, integrity_of};
 use crate::numbers::{four_at, three_at, two_at, wide};
 
 // The rules of reading, in their order.
-#[derive(Drop)]
+#[derive(Clone, Copy)]
 pub enum Fault {
     TooShort,
     WrongVersion,
@@ -25,19 +25,19 @@ pub enum Fault {
 }
 
 // The rule that is broken, and the place in the message that it names. Whoever passes a refusal on passes it on whole.
-#[derive(Drop)]
+#[derive(Clone, Copy)]
 pub struct Refusal {
     pub fault: Fault,
     pub place: usize,
 }
 
-#[derive(Drop)]
+#[derive(Clone, Copy)]
 pub enum Reading {
     Accepted(Envelope),
     Refused(Refusal),
 }
 
-#[derive(Drop)]
+#[derive(Clone, Copy)]
 pub(crate) enum Heading {
     Passed,
     Refused(Refusal),

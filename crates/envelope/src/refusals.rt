@@ -4,7 +4,7 @@ ghost use Rattle.envelope.specs.Refusals.{NumbersByReading, NumbersPlainly, Numb
 use crate::reader::Refusal;
 
 // Its own number, that of reading, or 0, and the place in the message, or 0.
-#[derive(Drop)]
+#[derive(Clone, Copy)]
 pub struct Numbers {
     pub number: u8,
     pub reading: u8,

@@ -9,7 +9,7 @@ use crate::fields::{Addressing, Envelope, Integrity};
 use crate::reader::{Reading, Refusal, read};
 use crate::writer::{Routing, Writing, write};
 
-#[derive(Drop)]
+#[derive(Clone, Copy)]
 pub enum Rewriting {
     Written(usize),
     Refused(Refusal),

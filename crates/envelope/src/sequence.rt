@@ -6,7 +6,7 @@ use std::num::wrapping_sub_u32;
 // Half of the numbers there are: from here on a difference counts as backward.
 const HALF: u32 = 2147483648;
 
-#[derive(Drop)]
+#[derive(Clone, Copy)]
 pub enum Sequence {
     Repeat,
     Next,

@@ -12,14 +12,14 @@ use crate::fields::{Envelope, Header};
 use crate::flags;
 use crate::numbers::{four_digits, three_digits, two_digits};
 
-#[derive(Drop)]
+#[derive(Clone, Copy)]
 pub enum Routing {
     Absent,
     Present { ttl: u16, qos: u16 },
 }
 
 // The refusals of writing, in their order.
-#[derive(Drop)]
+#[derive(Clone, Copy)]
 pub enum WriteFault {
     BadFlags,
     BadAddresses,
@@ -28,7 +28,7 @@ pub enum WriteFault {
     NoRoom,
 }
 
-#[derive(Drop)]
+#[derive(Clone, Copy)]
 pub enum Writing {
     Written(usize),
     Refused(WriteFault),

@@ -17,7 +17,7 @@ use envelope::{
 pub const FIELDS: usize = 16;
 
 // The numbers of an addressing; all 0 where it is absent.
-#[derive(Drop)]
+#[derive(Clone, Copy)]
 struct Ends {
     addressed: u64,
     ttl: u64,

@@ -7,21 +7,21 @@ use crate::closer::close;
 use crate::step::{Found, Standing};
 
 // The first `count` of the bytes kept are those of the message that is on its way, or was found, or was refused.
-#[derive(Drop)]
+#[derive(Clone, Copy)]
 pub struct Feed {
     pub kept: [u8; Feed::ROOM],
     pub count: usize,
     pub standing: Standing,
 }
 
-#[derive(Drop)]
+#[derive(Clone, Copy)]
 pub struct Taken {
     pub feed: Feed,
     pub used: usize,
     pub found: Found,
 }
 
-#[derive(Drop)]
+#[derive(Clone, Copy)]
 pub struct Ended {
     pub feed: Feed,
     pub found: Found,

@@ -4,7 +4,7 @@ ghost use Rattle.feed.specs.Told.{NumbersFeedRefusal};
 
 use envelope::Numbers;
 
-#[derive(Drop)]
+#[derive(Clone, Copy)]
 pub enum Refusal {
     // 2, 3, 4, 6 and 7; 1 and 5 only in a feed that no calls lead to
     MessageRefused(envelope::Refusal),

@@ -8,7 +8,7 @@ ghost use Rattle.feed.specs.Verdict.{more, refused};
 use crate::refusal::Refusal;
 use envelope::Envelope;
 
-#[derive(Drop)]
+#[derive(Clone, Copy)]
 pub enum Standing {
     // so many bytes of a message are in; between messages none
     Inside,
@@ -17,7 +17,7 @@ pub enum Standing {
     Refused(Refusal),
 }
 
-#[derive(Drop)]
+#[derive(Clone, Copy)]
 pub enum Found {
     Nothing,
     // A whole message. Its bytes stay with the feed until the next byte, and what `read` hands out of them comes along.
@@ -26,7 +26,7 @@ pub enum Found {
 }
 
 // What a call leaves beside the bytes kept, how many bytes it used, and what it found.
-#[derive(Drop)]
+#[derive(Clone, Copy)]
 pub struct Step {
     pub count: usize,
     pub standing: Standing,

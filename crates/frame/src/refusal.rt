@@ -6,7 +6,7 @@ ghost use Rattle.frame.specs.Refusal.{told_frame_refusal, NumbersFrameRefusal};
 
 use envelope::Numbers;
 
-#[derive(Drop)]
+#[derive(Clone, Copy)]
 pub enum Refusal {
     TooShort,
     NoStx,

@@ -10,7 +10,7 @@ use envelope::numbers::four_bytes;
 use envelope::{Envelope, Part, Reading, read};
 
 // A data message: the EMP message is a part of the frame's bytes; the envelope's own parts count from the message's first byte.
-#[derive(Drop)]
+#[derive(Clone, Copy)]
 pub struct DataMessage {
     pub commid: u32,
     pub message: Part,
@@ -18,13 +18,13 @@ pub struct DataMessage {
 }
 
 // Its own COMMID, and that of the message which it acknowledges.
-#[derive(Drop)]
+#[derive(Clone, Copy)]
 pub struct Acknowledgment {
     pub commid: u32,
     pub acknowledged: u32,
 }
 
-#[derive(Drop)]
+#[derive(Clone, Copy)]
 pub enum Unwrapped {
     Data(DataMessage),
     Acknowledged(Acknowledgment),

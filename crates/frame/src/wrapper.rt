@@ -10,7 +10,7 @@ use crate::refusal::Refusal;
 use envelope::numbers::four_digits;
 use envelope::{Reading, read};
 
-#[derive(Drop)]
+#[derive(Clone, Copy)]
 pub enum Wrapped {
     Written(usize),
     Refused(Refusal),

@@ -15,7 +15,7 @@ use envelope::numbers::{four_bytes, two_bytes};
 
 const BUCKETS: usize = 256;
 
-#[derive(Drop)]
+#[derive(Clone, Copy)]
 pub enum Checking {
     Count(usize),
     Refused { record: usize, refusal: Refusal },

@@ -8,7 +8,7 @@ use crate::refusal::Refusal;
 use crate::stepper::{Reached, answer_at};
 use envelope::{Reading, read};
 
-#[derive(Drop)]
+#[derive(Clone, Copy)]
 pub enum Comparison {
     Same,
     Different(usize),

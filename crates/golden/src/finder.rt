@@ -10,7 +10,7 @@ use crate::record::{GoodRecord, Opening};
 use crate::refusal::Refusal;
 
 // A record's name: what find seeks, and what no two live records of a checked file share.
-#[derive(Drop)]
+#[derive(Clone, Copy)]
 pub struct Name {
     pub message_type: u16,
     pub number: u32,
@@ -28,14 +28,14 @@ impl Name {
     }
 }
 
-#[derive(Drop)]
+#[derive(Clone, Copy)]
 pub enum Finding {
     Found { record: usize, opened: usize },
     Refused { refusal: Refusal, opened: usize },
 }
 
 // What an opened record is to find: it ends the search, or the search goes on.
-#[derive(Drop)]
+#[derive(Clone, Copy)]
 enum Seen {
     Bad(Refusal),
     Sought,

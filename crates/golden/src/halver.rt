@@ -11,7 +11,7 @@ use crate::record::Opening;
 use crate::refusal::Refusal;
 
 // What an opened record does: it ends the search, or leaves a range, from its first record up to one past its last.
-#[derive(Drop)]
+#[derive(Clone, Copy)]
 enum Turn {
     Ends(Finding),
     On { first: usize, end: usize },

@@ -7,13 +7,13 @@ use crate::file::{bad_file, count_of, open_at};
 use crate::record::Opening;
 use crate::refusal::Refusal;
 
-#[derive(Drop)]
+#[derive(Clone, Copy)]
 pub enum Counting {
     Count(usize),
     Refused(Refusal),
 }
 
-#[derive(Drop)]
+#[derive(Clone, Copy)]
 pub enum Entry {
     Good {
         message_type: u16,

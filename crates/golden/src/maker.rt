@@ -7,7 +7,7 @@ use crate::record::Record;
 use crate::refusal::Refusal;
 use envelope::{Reading, read};
 
-#[derive(Drop)]
+#[derive(Clone, Copy)]
 pub enum Making {
     Made,
     Refused(Refusal),

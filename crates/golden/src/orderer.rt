@@ -10,7 +10,7 @@ use crate::halver::comes_before;
 use crate::record::Opening;
 use crate::refusal::Refusal;
 
-#[derive(Drop)]
+#[derive(Clone, Copy)]
 pub enum Ordering {
     Ascends,
     // the first record that does not come after the one before it

@@ -8,20 +8,20 @@ use crate::refusal::Refusal;
 use envelope::numbers::{two_bytes, two_digits};
 use envelope::{Envelope, Reading, read};
 
-#[derive(Drop)]
+#[derive(Clone, Copy)]
 pub struct Record {
     pub bytes: [u8; Record::SIZE],
 }
 
 // What a good record holds.
-#[derive(Drop)]
+#[derive(Clone, Copy)]
 pub struct GoodRecord {
     pub size: usize,
     pub retired: bool,
     pub envelope: Envelope,
 }
 
-#[derive(Drop)]
+#[derive(Clone, Copy)]
 pub(crate) enum Opening {
     Good(GoodRecord),
     Bad(Refusal),

@@ -5,7 +5,7 @@ ghost use Rattle.golden.specs.Refusal.{NumbersGoldenRefusal};
 
 use envelope::Numbers;
 
-#[derive(Drop)]
+#[derive(Clone, Copy)]
 pub enum Refusal {
     NotAGoldenFile,
     NoRecord,

@@ -6,7 +6,7 @@ use crate::record::Record;
 use crate::refusal::Refusal;
 use crate::stepper::{Reached, answer_at};
 
-#[derive(Drop)]
+#[derive(Clone, Copy)]
 pub enum Retiring {
     Done,
     Refused(Refusal),

@@ -7,7 +7,7 @@ use crate::record::{Opening, Record, stored_length};
 use crate::refusal::Refusal;
 use envelope::Part;
 
-#[derive(Drop)]
+#[derive(Clone, Copy)]
 pub enum Reached {
     Message { part: Part, retired: bool },
     Refused(Refusal),
@@ -15,7 +15,7 @@ pub enum Reached {
 }
 
 // The answer, and the number of the next record.
-#[derive(Drop)]
+#[derive(Clone, Copy)]
 pub struct Stepping {
     pub answer: Reached,
     pub next: usize,

@@ -3,7 +3,7 @@ ghost use Rattle.golden.specs.Walking.{Begins, Walks};
 
 use crate::stepper::{Reached, step};
 
-#[derive(Drop)]
+#[derive(Clone, Copy)]
 pub struct Walk<'a> {
     pub file: &'a [u8],
     pub next: usize,

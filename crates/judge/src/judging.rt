@@ -9,7 +9,7 @@ use crate::rules;
 use envelope::{Fault, Refusal};
 
 // What became of a rule. One that was not judged counts as not broken.
-#[derive(Drop)]
+#[derive(Clone, Copy)]
 pub enum Verdict {
     Kept,
     // at this place of the message
@@ -19,7 +19,7 @@ pub enum Verdict {
 }
 
 // A verdict for each rule, in the order of the table: 1 to 7.
-#[derive(Drop)]
+#[derive(Clone, Copy)]
 pub struct Judging {
     pub least: Verdict,
     pub version: Verdict,
@@ -45,7 +45,7 @@ pub fn judge(bytes: &[u8]) -> Judging
 }
 
 // The broken rule with the lowest number, as reading refuses it.
-#[derive(Drop)]
+#[derive(Clone, Copy)]
 pub enum Lowest {
     NoneBroken,
     Rule(Refusal),

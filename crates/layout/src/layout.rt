@@ -11,7 +11,7 @@ use envelope::numbers::three_bytes;
 use envelope::{Envelope, Part};
 
 // The places by which one message's fields differ from another's.
-#[derive(Drop)]
+#[derive(Clone, Copy)]
 pub struct Layout {
     pub destination: usize,
     pub body: usize,

@@ -9,14 +9,14 @@ use crate::places::{in_places, read, store, store_with, waits_among};
 use crate::refusal::Refusal;
 
 // The one slot: the COMMID in flight, and how many resends it has left.
-#[derive(Drop)]
+#[derive(Clone, Copy)]
 pub enum Flight {
     Idle,
     Busy { commid: u32, left: u8 },
 }
 
 // What stands beside the places. Those that wait are in the first `count` of them, oldest first.
-#[derive(Drop)]
+#[derive(Clone, Copy)]
 pub struct Bench {
     pub resends: u8,
     pub flight: Flight,
@@ -24,20 +24,20 @@ pub struct Bench {
 }
 
 // After a refusal there is no bench.
-#[derive(Drop)]
+#[derive(Clone, Copy)]
 pub enum Start {
     Ready(Bench),
     Refused(Refusal),
 }
 
 // Which message goes out because the slot fell free.
-#[derive(Drop)]
+#[derive(Clone, Copy)]
 pub enum Next {
     Nothing,
     Goes(u32),
 }
 
-#[derive(Drop)]
+#[derive(Clone, Copy)]
 pub enum Answer {
     // to a submission
     Sent,
@@ -50,7 +50,7 @@ pub enum Answer {
     Refused(Refusal),
 }
 
-#[derive(Drop)]
+#[derive(Clone, Copy)]
 pub struct Step {
     pub answer: Answer,
     pub bench: Bench,
@@ -235,7 +235,7 @@ fn accept(bench: Bench, waiting: &mut [u32; Bench::PLACES], commid: u32) -> Step
 }
 
 // The bench, once the slot fell free and the oldest that waits went out.
-#[derive(Drop)]
+#[derive(Clone, Copy)]
 struct Freed {
     next: Next,
     bench: Bench,

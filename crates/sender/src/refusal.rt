@@ -3,7 +3,7 @@ ghost use Rattle.sender.specs.Told.{NumbersSenderRefusal};
 
 use envelope::Numbers;
 
-#[derive(Drop)]
+#[derive(Clone, Copy)]
 pub enum Refusal {
     // 70: 16 wait already
     Full,

@@ -32,14 +32,14 @@ const WORD_AND_ROOM: usize = WORD + ROOM;
 const HALF: usize = 4;
 
 // What is still to be added to the bytes to come: to the first eight, and to the eight after them.
-#[derive(Drop)]
+#[derive(Clone, Copy)]
 struct Pending {
     word: u64,
     after: u64,
 }
 
 // How many bytes are taken, and what is pending there.
-#[derive(Drop)]
+#[derive(Clone, Copy)]
 struct Stage {
     taken: usize,
     pending: Pending,

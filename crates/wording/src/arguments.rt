@@ -10,7 +10,7 @@ pub const NAMES: usize = 4;
 pub const BLANK: u8 = b' ';
 
 // What the options ask for, and how many names there are. An argument that is no option there is goes by its place.
-#[derive(Drop)]
+#[derive(Clone, Copy)]
 pub struct Given {
     pub names: usize,
     pub plain: bool,

@@ -46,7 +46,7 @@ pub const SEND: usize = 14;
 pub const HELP: usize = 15;
 
 // A command with its numbers, and the places of the arguments that name its files; 0 where there is none.
-#[derive(Drop)]
+#[derive(Clone, Copy)]
 pub struct Command {
     pub row: usize,
     pub manner: Manner,
@@ -57,7 +57,7 @@ pub struct Command {
     pub radio: usize,
 }
 
-#[derive(Drop)]
+#[derive(Clone, Copy)]
 pub enum Asked {
     Command(Command),
     // the complaint is made
@@ -65,7 +65,7 @@ pub enum Asked {
 }
 
 // The arguments of a command, so far.
-#[derive(Drop)]
+#[derive(Clone, Copy)]
 struct Taken {
     numbered: bool,
     number: u64,

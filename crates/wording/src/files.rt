@@ -10,7 +10,7 @@ pub const MOST: usize = 65_536;
 
 pub const ROOM: usize = MOST + 1;
 
-#[derive(Drop)]
+#[derive(Clone, Copy)]
 pub enum File {
     Size(usize),
     Untaken,

@@ -44,7 +44,7 @@ const LAST_RULE: u8 = 7;
 
 // What is refused, with the numbers told of it: its own, and behind it the bytes so far, the place, the records opened or the COMMID.
 // And what its message is part of, and where that has the message's first byte.
-#[derive(Drop)]
+#[derive(Clone, Copy)]
 pub struct Subject {
     pub what: u64,
     pub number: u64,

@@ -1,7 +1,7 @@
 // How a run of the tool ended.
 // Rests on nothing; the launcher makes it the exit status.
 
-#[derive(Drop)]
+#[derive(Clone, Copy)]
 pub enum Status {
     Done,
     Refused,

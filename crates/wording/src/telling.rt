@@ -6,7 +6,7 @@ use console::table::piece;
 use libc::{STDERR_FILENO, STDOUT_FILENO};
 use std::num::wrapping_add_usize;
 
-#[derive(Drop)]
+#[derive(Clone, Copy)]
 pub enum Manner {
     Words,
     Plain,
