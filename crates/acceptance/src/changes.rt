@@ -6,6 +6,8 @@ use crate::printing::say;
 use crate::reader::MEMORY;
 use crate::words::{between, byte_at};
 use exports::goldens::morlewen_check;
+use std::io;
+use std::io::Write;
 use std::num::{wrapping_add_u64, wrapping_add_usize};
 
 // The rows of the table that change the file.
@@ -23,7 +25,13 @@ const FLAGS: usize = 4;
 const BITS: usize = 4_096;
 
 // Tries each change of a series, and counts those made, and those after which check refuses the file.
-pub fn series_line(code: u8, template: &[u8], numbers: &mut [u64; 16], memory: &mut [u8; MEMORY]) {
+pub fn series_line(
+    out: &mut impl Write,
+    code: u8,
+    template: &[u8],
+    numbers: &mut [u64; 16],
+    memory: &mut [u8; MEMORY],
+) -> io::Result<()> {
     let used = place_at(numbers, USED);
     let word = step(between(memory, 0, used), place_at(numbers, 0), numbers);
     let place = place_at(numbers, 0);
@@ -35,7 +43,7 @@ pub fn series_line(code: u8, template: &[u8], numbers: &mut [u64; 16], memory: &
         memory,
         numbers,
     );
-    say(template, word, numbers, template, template);
+    say(out, template, word, numbers, template, template)
 }
 
 fn tries_of(code: u8, size: u64) -> usize {

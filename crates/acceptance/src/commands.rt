@@ -13,12 +13,15 @@ use crate::words::{LONGEST, between, byte_at, past_spaces, place_of};
 use check::same;
 use exports::feeds::NUMBERS;
 use exports::senders::BESIDE;
+use std::io;
+use std::io::Write;
 
 // Runs a line, and answers how many bytes the file has after it.
 // A row has a letter, the command, the tokens of its arguments, and behind the equals sign the template of its answer.
 // The tokens, where X is the letter of a number and m that of a most: a word that must stand; `#Xm` a number; `@Xm/word` BYTES up to the word,
 // and in X where it ends; `+Xm/word` LIST; `?word .. | .. .` what follows the word if it stands there, and else what follows the bar.
 pub fn run_line(
+    out: &mut impl Write,
     line: &[u8],
     number: usize,
     used: usize,
@@ -27,8 +30,9 @@ pub fn run_line(
     standing: &mut [u64; NUMBERS],
     waiting: &mut [u32; PLACES],
     beside: &mut [u64; BESIDE],
-) -> usize {
+) -> io::Result<usize> {
     run_row(
+        out,
         b"f file ?record @Ad | ?bytes @Az | ?zeros #Bz | ?change #Bp @Ac | new . =
 a sum @Am =#A $B
 b read @Am =?k0 accepted type #A version #B flags #C number #D time #E ?F0 unaddressed ?F1 ttl #G qos #H source #I #J [ &IJ ~] destination #K #L [ &KL ~] ?k0 body #M #N [ &MN ~] integrity ?O0 none ?O1 crc $P ?O2 application $P ?k2 refused #n #v
@@ -80,6 +84,7 @@ u timeout commid #A4 =?c5 again ?c6 failed ?c7 failed next #v ?k3 refused #n
 
 // Runs the line by its row of the table.
 fn run_row(
+    out: &mut impl Write,
     table: &[u8],
     line: &[u8],
     number: usize,
@@ -89,7 +94,7 @@ fn run_row(
     standing: &mut [u64; NUMBERS],
     waiting: &mut [u32; PLACES],
     beside: &mut [u64; BESIDE],
-) -> usize {
+) -> io::Result<usize> {
     let mut numbers = [
         0,
         0,
@@ -110,9 +115,10 @@ fn run_row(
     ];
     let place = row_of(command_of(line), table);
     let row = between(table, place, place_of(table, place, b'\n'));
-    let from = start_of(line, row, &mut numbers);
-    let end = arguments(line, from, row, &mut numbers, memory);
+    let from = start_of(out, line, row, &mut numbers)?;
+    let end = arguments(out, line, from, row, &mut numbers, memory)?;
     run_read(
+        out,
         code_of(row, end),
         between(line, 0, from),
         row,
@@ -156,37 +162,48 @@ fn is_row(row: &[u8], command: &[u8]) -> bool {
 }
 
 // Where the arguments begin: behind the command, and behind the colon that ends the name. A line of the file has none.
-fn start_of(line: &[u8], row: &[u8], numbers: &mut [u64; 16]) -> usize {
+fn start_of(
+    out: &mut impl Write,
+    line: &[u8],
+    row: &[u8],
+    numbers: &mut [u64; 16],
+) -> io::Result<usize> {
     let from = past_spaces(line, 0);
     let to = place_of(line, from, b' ');
-    if is_silent(line, from, at(numbers, LINE)) {
-        return FAILED;
+    if is_silent(out, line, from, at(numbers, LINE))? {
+        return Ok(FAILED);
     }
     match byte_at(row, 0) {
-        0 => complain(A_COMMAND, from, row, numbers),
-        b'f' => to,
-        _ => behind_name(line, to, numbers),
+        0 => complain(out, A_COMMAND, from, row, numbers),
+        b'f' => Ok(to),
+        _ => behind_name(out, line, to, numbers),
     }
 }
 
 // Whether a line is a comment, or so long that this alone is told.
-fn is_silent(line: &[u8], from: usize, number: u64) -> bool {
+fn is_silent(out: &mut impl Write, line: &[u8], from: usize, number: u64) -> io::Result<bool> {
     if LONGEST < line.len() {
-        remark(number, b": longer than 4096 characters\n");
-        return true;
+        remark(out, number, b": longer than 4096 characters\n")?;
+        return Ok(true);
     }
-    line.len() <= from || byte_at(line, from) == b'#'
+    Ok(line.len() <= from || byte_at(line, from) == b'#')
 }
 
-fn behind_name(line: &[u8], to: usize, numbers: &mut [u64; 16]) -> usize {
+fn behind_name(
+    out: &mut impl Write,
+    line: &[u8],
+    to: usize,
+    numbers: &mut [u64; 16],
+) -> io::Result<usize> {
     let colon = place_of(line, to, b':');
     if line.len() <= colon || colon <= past_spaces(line, to) {
-        return complain(A_NAME, to, line, numbers);
+        return complain(out, A_NAME, to, line, numbers);
     }
-    colon + 1
+    Ok(colon + 1)
 }
 
 fn run_read(
+    out: &mut impl Write,
     code: u8,
     head: &[u8],
     row: &[u8],
@@ -196,14 +213,15 @@ fn run_read(
     standing: &mut [u64; NUMBERS],
     waiting: &mut [u32; PLACES],
     beside: &mut [u64; BESIDE],
-) -> usize {
+) -> io::Result<usize> {
     let used = place_at(numbers, USED);
     match code {
-        0 => used,
-        b'f' => file_line(numbers, used, memory),
+        0 => Ok(used),
+        b'f' => file_line(out, numbers, used, memory),
         _ => {
-            text(between(head, past_spaces(head, 0), head.len()));
+            text(out, between(head, past_spaces(head, 0), head.len()))?;
             answer(
+                out,
                 code,
                 between(row, place_of(row, 0, b'=') + 1, row.len()),
                 numbers,
@@ -212,15 +230,16 @@ fn run_read(
                 standing,
                 waiting,
                 beside,
-            );
-            text(b"\n");
-            used
+            )?;
+            text(out, b"\n")?;
+            Ok(used)
         }
     }
 }
 
 // The letters of the rows are such that those of a module stand together: signs, digits, capitals from P on, small letters, small ones from p on, and capitals.
 fn answer(
+    out: &mut impl Write,
     code: u8,
     template: &[u8],
     numbers: &mut [u64; 16],
@@ -229,19 +248,19 @@ fn answer(
     standing: &mut [u64; NUMBERS],
     waiting: &mut [u32; PLACES],
     beside: &mut [u64; BESIDE],
-) {
+) -> io::Result<()> {
     match code / 16 {
-        2 => feed_line(code, template, numbers, memory, kept, standing),
-        3 => series_line(code, template, numbers, memory),
-        5 => lent_line(code, template, numbers, memory),
-        6 => envelope_line(code, template, numbers, memory),
+        2 => feed_line(out, code, template, numbers, memory, kept, standing),
+        3 => series_line(out, code, template, numbers, memory),
+        5 => lent_line(out, code, template, numbers, memory),
+        6 => envelope_line(out, code, template, numbers, memory),
         7 => match code {
-            b'p' => compare_line(template, numbers, memory),
-            _ => sender_line(code, template, numbers, waiting, beside),
+            b'p' => compare_line(out, template, numbers, memory),
+            _ => sender_line(out, code, template, numbers, waiting, beside),
         },
         _ => {
             let used = place_at(numbers, USED);
-            golden_line(code, template, numbers, between(memory, 0, used))
+            golden_line(out, code, template, numbers, between(memory, 0, used))
         }
     }
 }

@@ -14,6 +14,8 @@ use exports::qos::{morlewen_qos_join, morlewen_qos_split};
 use exports::sums::morlewen_crc;
 use exports::timing::{morlewen_lateness_from_entry, morlewen_sequence};
 use exports::verdicts::{RULES, morlewen_judge_places};
+use std::io;
+use std::io::Write;
 
 // What a lent buffer holds in every byte before a call.
 const BLANK: u8 = 0xEE;
@@ -21,13 +23,19 @@ const BLANK: u8 = 0xEE;
 // The largest room of a lent buffer.
 const ROOM: usize = 1_024;
 
-pub fn envelope_line(code: u8, template: &[u8], numbers: &mut [u64; 16], memory: &[u8; MEMORY]) {
+pub fn envelope_line(
+    out: &mut impl Write,
+    code: u8,
+    template: &[u8],
+    numbers: &mut [u64; 16],
+    memory: &[u8; MEMORY],
+) -> io::Result<()> {
     let message = between(memory, place_at(numbers, BEGUN), place_at(numbers, END));
     match code {
-        b'h' => unwrap_line(template, numbers, message),
+        b'h' => unwrap_line(out, template, numbers, message),
         _ => {
             let word = envelope_answer(code, message, numbers);
-            say(template, word, numbers, message, message);
+            say(out, template, word, numbers, message, message)
         }
     }
 }
@@ -45,11 +53,24 @@ fn envelope_answer(code: u8, message: &[u8], numbers: &mut [u64; 16]) -> u64 {
 }
 
 // The commands that write into a lent buffer.
-pub fn lent_line(code: u8, template: &[u8], numbers: &[u64; 16], memory: &[u8; MEMORY]) {
+pub fn lent_line(
+    out: &mut impl Write,
+    code: u8,
+    template: &[u8],
+    numbers: &[u64; 16],
+    memory: &[u8; MEMORY],
+) -> io::Result<()> {
     let mut blank = [BLANK; ROOM];
     let room = place_at(numbers, LENT);
     let word = lent_answer(code, numbers, memory, front(&mut blank, room));
-    say(template, word, numbers, template, between(&blank, 0, room));
+    say(
+        out,
+        template,
+        word,
+        numbers,
+        template,
+        between(&blank, 0, room),
+    )
 }
 
 fn lent_answer(code: u8, numbers: &[u64; 16], memory: &[u8; MEMORY], lent: &mut [u8]) -> u64 {

@@ -5,6 +5,8 @@ use crate::numbers::{BEGUN, CHOICE, END, LINE, at, place_at};
 use crate::printing::{number, remark, text};
 use crate::reader::{FILE_ROOM, MEMORY};
 use crate::words::byte_at;
+use std::io;
+use std::io::Write;
 use std::num::{wrapping_add_usize, wrapping_sub_usize};
 
 // What a line does, by the alternatives of its row that did not fit.
@@ -19,13 +21,18 @@ const A_CHANGE: u64 = 3;
 const NO_ROOM: u64 = 9;
 
 // The file's length after the line.
-pub fn file_line(numbers: &[u64; 16], used: usize, memory: &mut [u8; MEMORY]) -> usize {
+pub fn file_line(
+    out: &mut impl Write,
+    numbers: &[u64; 16],
+    used: usize,
+    memory: &mut [u8; MEMORY],
+) -> io::Result<usize> {
     let choice = choice_of(at(numbers, CHOICE), used);
     let begun = place_at(numbers, BEGUN);
     let size = wrapping_sub_usize(place_at(numbers, END), begun);
     let now = changed(choice, place_at(numbers, 1), begun, size, used, memory);
-    told(choice, at(numbers, LINE), now);
-    now
+    told(out, choice, at(numbers, LINE), now)?;
+    Ok(now)
 }
 
 fn choice_of(choice: u64, used: usize) -> u64 {
@@ -35,13 +42,13 @@ fn choice_of(choice: u64, used: usize) -> u64 {
     choice
 }
 
-fn told(choice: u64, line: u64, now: usize) {
+fn told(out: &mut impl Write, choice: u64, line: u64, now: usize) -> io::Result<()> {
     if choice == NO_ROOM {
-        return remark(line, b": no room for a record in the file\n");
+        return remark(out, line, b": no room for a record in the file\n");
     }
-    text(b"file:");
-    number(now as u64);
-    text(b" bytes\n");
+    text(out, b"file:")?;
+    number(out, now as u64)?;
+    text(out, b" bytes\n")
 }
 
 // Behind the memory's end stand zeros, for `carry`.

@@ -8,6 +8,8 @@ use exports::goldens::{
     morlewen_ascending, morlewen_check, morlewen_compare, morlewen_find, morlewen_find_by_halving,
     morlewen_line, morlewen_records, morlewen_retired_records, morlewen_step,
 };
+use std::io;
+use std::io::Write;
 use std::num::{wrapping_add_u64, wrapping_add_usize, wrapping_sub_usize};
 
 // Whether there is more to tell, of a walk and of a listing.
@@ -16,22 +18,34 @@ const MORE: usize = 3;
 // The most numbers of a list.
 const MOST_LISTED: usize = 600;
 
-pub fn golden_line(code: u8, template: &[u8], numbers: &mut [u64; 16], file: &[u8]) {
-    let word = golden_answer(code, template, numbers, file);
-    say(template, word, numbers, file, file);
+pub fn golden_line(
+    out: &mut impl Write,
+    code: u8,
+    template: &[u8],
+    numbers: &mut [u64; 16],
+    file: &[u8],
+) -> io::Result<()> {
+    let word = golden_answer(out, code, template, numbers, file)?;
+    say(out, template, word, numbers, file, file)
 }
 
-fn golden_answer(code: u8, template: &[u8], numbers: &mut [u64; 16], file: &[u8]) -> u64 {
+fn golden_answer(
+    out: &mut impl Write,
+    code: u8,
+    template: &[u8],
+    numbers: &mut [u64; 16],
+    file: &[u8],
+) -> io::Result<u64> {
     let record = place_at(numbers, 0);
     match code {
-        b'A' => morlewen_check(file),
-        b'B' => morlewen_find(file, two_at(numbers, 0), four_at(numbers, 1)),
-        b'C' => step(file, record, numbers),
-        b'E' => entry(file, record, numbers),
-        b'G' => morlewen_retired_records(file),
-        b'H' => morlewen_find_by_halving(file, two_at(numbers, 0), four_at(numbers, 1)),
-        b'I' => morlewen_ascending(file),
-        _ => each(code, template, file, numbers),
+        b'A' => Ok(morlewen_check(file)),
+        b'B' => Ok(morlewen_find(file, two_at(numbers, 0), four_at(numbers, 1))),
+        b'C' => Ok(step(file, record, numbers)),
+        b'E' => Ok(entry(file, record, numbers)),
+        b'G' => Ok(morlewen_retired_records(file)),
+        b'H' => Ok(morlewen_find_by_halving(file, two_at(numbers, 0), four_at(numbers, 1))),
+        b'I' => Ok(morlewen_ascending(file)),
+        _ => each(out, code, template, file, numbers),
     }
 }
 
@@ -62,15 +76,21 @@ fn entry(file: &[u8], record: usize, numbers: &mut [u64; 16]) -> u64 {
 }
 
 // Tells each step of a walk, or each part of a listing, but the last, which it answers.
-fn each(code: u8, template: &[u8], file: &[u8], numbers: &mut [u64; 16]) -> u64 {
+fn each(
+    out: &mut impl Write,
+    code: u8,
+    template: &[u8],
+    file: &[u8],
+    numbers: &mut [u64; 16],
+) -> io::Result<u64> {
     let mut turn = 0;
     let mut word = one_of(code, file, 0, numbers);
     while turn < file.len() && at(numbers, MORE) > 0 {
-        say(template, word, numbers, file, file);
+        say(out, template, word, numbers, file, file)?;
         turn += 1;
         word = one_of(code, file, turn, numbers);
     }
-    word
+    Ok(word)
 }
 
 fn one_of(code: u8, file: &[u8], turn: usize, numbers: &mut [u64; 16]) -> u64 {
@@ -101,14 +121,19 @@ fn listed_part(records: u64, file: &[u8], turn: usize, numbers: &mut [u64; 16]) 
 
 // ---- comparing
 
-pub fn compare_line(template: &[u8], numbers: &[u64; 16], memory: &[u8; MEMORY]) {
+pub fn compare_line(
+    out: &mut impl Write,
+    template: &[u8],
+    numbers: &[u64; 16],
+    memory: &[u8; MEMORY],
+) -> io::Result<()> {
     let mut places = [0u32; MOST_LISTED];
     let end = place_at(numbers, LISTED);
     let count = wrapping_sub_usize(end, FILE_ROOM) / 4;
     unpack(between(memory, FILE_ROOM, end), &mut places);
     let word = compared(numbers, memory, count, &mut places);
-    say(template, word, numbers, template, template);
-    tell_places(&places, count);
+    say(out, template, word, numbers, template, template)?;
+    tell_places(out, &places, count)
 }
 
 fn compared(
@@ -162,14 +187,15 @@ fn two_bytes(bytes: &[u8], place: usize) -> u32 {
     byte_at(bytes, place) as u32 * 256 + byte_at(bytes, wrapping_add_usize(place, 1)) as u32
 }
 
-fn tell_places(places: &[u32; MOST_LISTED], count: usize) {
+fn tell_places(out: &mut impl Write, places: &[u32; MOST_LISTED], count: usize) -> io::Result<()> {
     let mut i = 0;
     while i < MOST_LISTED && i < count {
-        tell_place(places[i]);
+        tell_place(out, places[i])?;
         i += 1;
     }
+    Ok(())
 }
 
-fn tell_place(n: u32) {
-    number(n as u64);
+fn tell_place(out: &mut impl Write, n: u32) -> io::Result<()> {
+    number(out, n as u64)
 }

@@ -1,16 +1,24 @@
-// Answers on standard output, by a template: its words, one after another, with numbers and bytes where a mark stands.
-// Rests on the kit's `io`.
+// Answers, by a template: its words, one after another, with numbers and bytes where a mark stands.
+// Rests on `words`.
 ghost use Rattle.std.specs.Prelude.{◌≤◌, length};
 
 use crate::numbers::{at, slot};
 use crate::words::{between, byte_at, place_of};
-use libc::STDOUT_FILENO;
+use std::io;
+use std::io::Write;
 use std::num::wrapping_add_usize;
 
 // The marks, where X and Y are letters that name a number, or the answer's kind or mark, see `value_of`:
 // `#X` a number; `$X` its eight hex digits; `&XY` the bytes of the message from place X on, Y of them, in hex; `%` the message itself;
 // `!` the lent buffer; `~` what stands behind it, with no space in front; `?X12` the words from here on only where X is 1 or 2; `?` again always.
-pub fn say(template: &[u8], answer: u64, numbers: &[u64; 16], message: &[u8], lent: &[u8]) {
+pub fn say(
+    out: &mut impl Write,
+    template: &[u8],
+    answer: u64,
+    numbers: &[u64; 16],
+    message: &[u8],
+    lent: &[u8],
+) -> io::Result<()> {
     let mut from = 0;
     let mut shown = true;
     while from < template.len() {
@@ -18,10 +26,11 @@ pub fn say(template: &[u8], answer: u64, numbers: &[u64; 16], message: &[u8], le
         let word = between(template, from, to);
         shown = shows(shown, word, answer, numbers);
         if shown {
-            put(word, answer, numbers, message, lent);
+            put(out, word, answer, numbers, message, lent)?;
         }
         from = to + 1;
     }
+    Ok(())
 }
 
 // Whether words are shown from this one on.
@@ -33,21 +42,31 @@ fn shows(shown: bool, word: &[u8], answer: u64, numbers: &[u64; 16]) -> bool {
     word.len() < 2 || place_of(word, 2, b'0' + digit as u8) < word.len()
 }
 
-fn put(word: &[u8], answer: u64, numbers: &[u64; 16], message: &[u8], lent: &[u8]) {
+fn put(
+    out: &mut impl Write,
+    word: &[u8],
+    answer: u64,
+    numbers: &[u64; 16],
+    message: &[u8],
+    lent: &[u8],
+) -> io::Result<()> {
     let value = value_of(byte_at(word, 1), answer, numbers);
     match byte_at(word, 0) {
-        b'?' => {}
-        b'#' => number(value),
-        b'$' => hex_word(value),
-        b'&' => hex_bytes(stretch(
-            message,
-            value as usize,
-            value_of(byte_at(word, 2), answer, numbers) as usize,
-        )),
-        b'%' => spaced(message),
-        b'!' => buffer(lent),
-        b'~' => text(between(word, 1, word.len())),
-        _ => spaced(word),
+        b'?' => Ok(()),
+        b'#' => number(out, value),
+        b'$' => hex_word(out, value),
+        b'&' => hex_bytes(
+            out,
+            stretch(
+                message,
+                value as usize,
+                value_of(byte_at(word, 2), answer, numbers) as usize,
+            ),
+        ),
+        b'%' => spaced(out, message),
+        b'!' => buffer(out, lent),
+        b'~' => text(out, between(word, 1, word.len())),
+        _ => spaced(out, word),
     }
 }
 
@@ -91,57 +110,56 @@ fn stretch(message: &[u8], place: usize, size: usize) -> &[u8] {
     between(message, place, wrapping_add_usize(place, size))
 }
 
-pub fn text(words: &[u8]) {
-    io::write_all(STDOUT_FILENO, words);
+pub fn text(out: &mut impl Write, words: &[u8]) -> io::Result<()> {
+    out.write_all(words)
 }
 
 // A complaint about a whole line.
-pub fn remark(line: u64, words: &[u8]) {
-    text(b"line");
-    number(line);
-    text(words);
+pub fn remark(out: &mut impl Write, line: u64, words: &[u8]) -> io::Result<()> {
+    text(out, b"line")?;
+    number(out, line)?;
+    text(out, words)
 }
 
-fn spaced(words: &[u8]) {
-    text(b" ");
-    text(words);
+fn spaced(out: &mut impl Write, words: &[u8]) -> io::Result<()> {
+    text(out, b" ")?;
+    text(out, words)
 }
 
-pub fn number(n: u64) {
-    text(b" ");
-    io::print_decimal(STDOUT_FILENO, n);
+pub fn number(out: &mut impl Write, n: u64) -> io::Result<()> {
+    write!(out, " {n}")
 }
 
-fn hex_word(n: u64) {
-    text(b" ");
-    io::print_hex(STDOUT_FILENO, n, 8);
+fn hex_word(out: &mut impl Write, n: u64) -> io::Result<()> {
+    write!(out, " {n:08x}")
 }
 
-fn hex_byte(byte: u8) {
-    io::print_hex(STDOUT_FILENO, byte as u64, 2);
+fn hex_byte(out: &mut impl Write, byte: u8) -> io::Result<()> {
+    write!(out, "{byte:02x}")
 }
 
-fn hex_bytes(bytes: &[u8]) {
+fn hex_bytes(out: &mut impl Write, bytes: &[u8]) -> io::Result<()> {
     let mut i = 0;
     while i < bytes.len() {
-        hex_byte(bytes[i]);
+        hex_byte(out, bytes[i])?;
         i += 1;
     }
+    Ok(())
 }
 
 // A lent buffer: the bytes before its last run of one byte, then that byte and the length of the run.
-fn buffer(bytes: &[u8]) {
+fn buffer(out: &mut impl Write, bytes: &[u8]) -> io::Result<()> {
     if bytes.len() == 0 {
-        return;
+        return Ok(());
     }
     let start = last_run(bytes);
-    hex_bytes(between(bytes, 0, start));
+    hex_bytes(out, between(bytes, 0, start))?;
     if 0 < start {
-        text(b" ");
+        text(out, b" ")?;
     }
-    hex_byte(byte_at(bytes, start));
-    text(b"*");
-    io::print_decimal(STDOUT_FILENO, (bytes.len() - start) as u64);
+    hex_byte(out, byte_at(bytes, start))?;
+    let size = bytes.len() - start;
+    write!(out, "*{size}")
 }
 
 // Where the bytes at the end begin to be the same.

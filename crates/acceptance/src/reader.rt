@@ -7,6 +7,8 @@ use crate::words::{
     NO_NUMBER, TAKEN, TOO_LARGE, between, byte_at, decimal_of, past_spaces, place_of,
 };
 use check::same;
+use std::io;
+use std::io::Write;
 use std::num::{wrapping_add_u64, wrapping_sub_u64};
 
 // The most bytes that the file has, at the front of the memory: two records more than may be. Behind it stand those of the arguments.
@@ -39,24 +41,25 @@ const TURNS: usize = 8_192;
 
 // Reads the arguments that a row tells, from a place of the line on; FAILED where a word did not fit.
 pub fn arguments(
+    out: &mut impl Write,
     line: &[u8],
     from: usize,
     row: &[u8],
     numbers: &mut [u64; 16],
     memory: &mut [u8; MEMORY],
-) -> usize {
+) -> io::Result<usize> {
     let mut place = from;
     let mut here = place_of(row, 2, b' ');
     let mut turns = TURNS;
     while turns > 0 && place != FAILED && byte_at(row, here) != b'=' {
         here = past_spaces(row, here);
         let token = between(row, here, place_of(row, here, b' '));
-        let next = argument(line, place, token, numbers, memory);
+        let next = argument(out, line, place, token, numbers, memory)?;
         here = onward(row, here, next == place);
         place = next;
         turns -= 1;
     }
-    place
+    Ok(place)
 }
 
 // Where the row goes on behind a token. BYTES and LIST take words until one is left. An alternative that did not fit ends behind the bar, and one that did
@@ -85,19 +88,20 @@ fn choose(first: bool, one: usize, other: usize) -> usize {
 
 // Where the line goes on behind a token.
 fn argument(
+    out: &mut impl Write,
     line: &[u8],
     place: usize,
     token: &[u8],
     numbers: &mut [u64; 16],
     memory: &mut [u8; MEMORY],
-) -> usize {
+) -> io::Result<usize> {
     let from = past_spaces(line, place);
     let to = place_of(line, from, b' ');
     let verdict = judged(between(line, from, to), token, numbers, memory);
     match verdict {
-        TAKEN => to,
-        LEFT => place,
-        _ => complain(verdict, from, token, numbers),
+        TAKEN => Ok(to),
+        LEFT => Ok(place),
+        _ => complain(out, verdict, from, token, numbers),
     }
 }
 
@@ -175,7 +179,13 @@ pub fn most_of(token: &[u8], numbers: &[u64; 16]) -> u64 {
 }
 
 // Tells what was expected at a place of the line.
-pub fn complain(verdict: u8, place: usize, token: &[u8], numbers: &mut [u64; 16]) -> usize {
+pub fn complain(
+    out: &mut impl Write,
+    verdict: u8,
+    place: usize,
+    token: &[u8],
+    numbers: &mut [u64; 16],
+) -> io::Result<usize> {
     let most = most_of(token, numbers);
     put_four(
         numbers,
@@ -185,11 +195,12 @@ pub fn complain(verdict: u8, place: usize, token: &[u8], numbers: &mut [u64; 16]
         0,
     );
     say(
+        out,
         b"~line #P ~, column #C ~: ?A0 a command ?A1 a name and a colon ?A2 the word % ?A3 a number from 0 to #B ?A4 bytes ?A5 at most #B bytes ?A6 at most 600 numbers ?A7 the end of the line ?A8 a number from 0 to 4294967295 ? expected ~\n",
         0,
         numbers,
         token,
         token,
-    );
-    FAILED
+    )?;
+    Ok(FAILED)
 }

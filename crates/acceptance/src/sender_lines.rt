@@ -8,6 +8,8 @@ use exports::senders::{
     morlewen_sender_start, morlewen_sender_submit, morlewen_sender_time_out,
     morlewen_sender_waiting,
 };
+use std::io;
+use std::io::Write;
 use std::num::wrapping_sub_u64;
 
 // The places of those that wait.
@@ -16,20 +18,22 @@ pub const PLACES: usize = 16;
 const COMMIDS: u64 = 4_294_967_296;
 
 pub fn sender_line(
+    out: &mut impl Write,
     code: u8,
     template: &[u8],
     numbers: &[u64; 16],
     waiting: &mut [u32; PLACES],
     beside: &mut [u64; BESIDE],
-) {
+) -> io::Result<()> {
     let word = sender_answer(code, at(numbers, 0), waiting, beside);
-    say(template, word, numbers, template, template);
+    say(out, template, word, numbers, template, template)?;
     tell_flight(
+        out,
         morlewen_sender_flight(beside),
         beside[0],
         count_of(morlewen_sender_waiting(waiting, beside)),
-    );
-    tell_places(waiting);
+    )?;
+    tell_places(out, waiting)
 }
 
 fn sender_answer(code: u8, n: u64, waiting: &mut [u32; PLACES], beside: &mut [u64; BESIDE]) -> u64 {
@@ -43,7 +47,7 @@ fn sender_answer(code: u8, n: u64, waiting: &mut [u32; PLACES], beside: &mut [u6
     }
 }
 
-fn tell_flight(flight: u64, resends: u64, count: u64) {
+fn tell_flight(out: &mut impl Write, flight: u64, resends: u64, count: u64) -> io::Result<()> {
     let mut numbers = [0u64; 16];
     put_four(
         &mut numbers,
@@ -53,18 +57,20 @@ fn tell_flight(flight: u64, resends: u64, count: u64) {
         count,
     );
     say(
+        out,
         b"resends #A ?B0 flight none ?B1 flight #v left #C ? waiting #D places",
         flight,
         &numbers,
         b"",
         b"",
-    );
+    )
 }
 
-fn tell_places(waiting: &[u32; PLACES]) {
+fn tell_places(out: &mut impl Write, waiting: &[u32; PLACES]) -> io::Result<()> {
     let mut k = 0;
     while k < PLACES {
-        number(wide(waiting[k]));
+        number(out, wide(waiting[k]))?;
         k += 1;
     }
+    Ok(())
 }

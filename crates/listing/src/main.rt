@@ -1,90 +1,115 @@
 // Lists a golden file from standard input: the count, then a line for each record.
 #![tactic(auto)]
 
+ghost use Rattle.std.specs.Prelude.{◌≤◌, IfOk, length};
+
 use golden::{Counting, Entry, Record, Refusal, count, entry_at};
-use libc::{STDIN_FILENO, STDOUT_FILENO};
+use std::io;
+use std::io::{Read, Write};
 
 // A byte more than the largest file, so that a longer input is refused and not cut short.
 const ROOM: usize = Record::LARGEST_FILE + 1;
 
-fn main() {
+fn main(rt: HostRuntime) -> io::Result<()> {
     let mut buffer = [0u8; ROOM];
-    let size = io::read_full(STDIN_FILENO, &mut buffer);
-    list(&buffer[..size]);
+    let size = read_full(&mut rt.stdin(), &mut buffer)?;
+    list(&mut rt.stdout(), &buffer[..size])
 }
 
-fn list(file: &[u8]) {
+// Reads until the buffer is full or the input ends: how many bytes.
+fn read_full(input: &mut impl Read, buffer: &mut [u8]) -> io::Result<usize>
+    ensures { IfOk result (λ size. size ≤ length buffer.new) }
+{
+    let mut size = 0;
+    while size < buffer.len() {
+        let taken = input.read(&mut buffer[size..])?;
+        if taken == 0 {
+            break;
+        }
+        size += taken;
+    }
+    Ok(size)
+}
+
+fn list(out: &mut impl Write, file: &[u8]) -> io::Result<()> {
     match count(file) {
         Counting::Count(records) => {
-            heading(records);
-            list_records(file, records);
+            heading(out, records)?;
+            list_records(out, file, records)
         }
         Counting::Refused(refusal) => {
-            text(b"refused");
-            numbers(refusal);
-            end_line();
+            text(out, b"refused")?;
+            numbers(out, refusal)?;
+            end_line(out)
         }
     }
 }
 
-fn heading(records: usize) {
-    text(b"records");
-    number(records as u64);
-    end_line();
+fn heading(out: &mut impl Write, records: usize) -> io::Result<()> {
+    text(out, b"records")?;
+    number(out, records as u64)?;
+    end_line(out)
 }
 
-fn list_records(file: &[u8], records: usize) {
+fn list_records(out: &mut impl Write, file: &[u8], records: usize) -> io::Result<()> {
     let mut n = 0;
     while n < records {
-        line(file, n);
+        line(out, file, n)?;
         n += 1;
     }
+    Ok(())
 }
 
 // The record's number, and what the library answers of it.
-fn line(file: &[u8], n: usize) {
-    io::print_decimal(STDOUT_FILENO, n as u64);
+fn line(out: &mut impl Write, file: &[u8], n: usize) -> io::Result<()> {
+    write!(out, "{n}")?;
     match entry_at(file, n) {
         Entry::Good {
             message_type,
             number: message_number,
             size,
             retired,
-        } => good(message_type, message_number, size, retired),
+        } => good(out, message_type, message_number, size, retired)?,
         Entry::Refused(refusal) => {
-            text(b" refused");
-            numbers(refusal);
+            text(out, b" refused")?;
+            numbers(out, refusal)?;
         }
     }
-    end_line();
+    end_line(out)
 }
 
-fn good(message_type: u16, message_number: u32, size: usize, retired: bool) {
-    number(message_type as u64);
-    number(message_number as u64);
-    number(size as u64);
+fn good(
+    out: &mut impl Write,
+    message_type: u16,
+    message_number: u32,
+    size: usize,
+    retired: bool,
+) -> io::Result<()> {
+    number(out, message_type as u64)?;
+    number(out, message_number as u64)?;
+    number(out, size as u64)?;
     if retired {
-        text(b" retired");
+        text(out, b" retired")?;
     }
+    Ok(())
 }
 
-fn numbers(refusal: Refusal) {
+fn numbers(out: &mut impl Write, refusal: Refusal) -> io::Result<()> {
     let numbers = refusal.numbers();
-    number(numbers.number as u64);
-    number(numbers.reading as u64);
-    number(numbers.place as u64);
+    number(out, numbers.number as u64)?;
+    number(out, numbers.reading as u64)?;
+    number(out, numbers.place as u64)
 }
 
 // A space, and the number after it.
-fn number(n: u64) {
-    text(b" ");
-    io::print_decimal(STDOUT_FILENO, n);
+fn number(out: &mut impl Write, n: u64) -> io::Result<()> {
+    write!(out, " {n}")
 }
 
-fn end_line() {
-    text(b"\n");
+fn end_line(out: &mut impl Write) -> io::Result<()> {
+    text(out, b"\n")
 }
 
-fn text(words: &[u8]) {
-    io::write_all(STDOUT_FILENO, words);
+fn text(out: &mut impl Write, words: &[u8]) -> io::Result<()> {
+    out.write_all(words)
 }
