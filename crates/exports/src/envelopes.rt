@@ -28,8 +28,7 @@ struct Ends {
     destination_size: u64,
 }
 
-#[unsafe(no_mangle)]
-pub extern "C" fn morlewen_read(bytes: &[u8], fields: &mut [u64; FIELDS]) -> u64
+pub fn morlewen_read(bytes: &[u8], fields: &mut [u64; FIELDS]) -> u64
     ensures { ReadsForC bytes.now fields.old result fields.new }
 {
     let reading = read(bytes);
@@ -37,8 +36,7 @@ pub extern "C" fn morlewen_read(bytes: &[u8], fields: &mut [u64; FIELDS]) -> u64
     read_word(reading)
 }
 
-#[unsafe(no_mangle)]
-pub extern "C" fn morlewen_write(
+pub fn morlewen_write(
     message_type: u16,
     version: u8,
     flags: u8,
@@ -74,8 +72,7 @@ pub extern "C" fn morlewen_write(
     ))
 }
 
-#[unsafe(no_mangle)]
-pub extern "C" fn morlewen_rewrite(bytes: &[u8], buffer: &mut [u8]) -> u64
+pub fn morlewen_rewrite(bytes: &[u8], buffer: &mut [u8]) -> u64
     ensures { RewritesForC bytes.now buffer.old result buffer.new }
 {
     rewrite_word(rewrite(bytes, buffer))

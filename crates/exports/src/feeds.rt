@@ -17,8 +17,7 @@ use feed::{Feed, Found, Refusal, Standing, advance, close, held};
 // How many numbers stand beside the bytes that a feed keeps.
 pub const NUMBERS: usize = 2;
 
-#[unsafe(no_mangle)]
-pub extern "C" fn morlewen_feed_take(
+pub fn morlewen_feed_take(
     kept: &mut [u8; Feed::ROOM],
     numbers: &mut [u64; NUMBERS],
     piece: &[u8],
@@ -35,8 +34,7 @@ pub extern "C" fn morlewen_feed_take(
     found_word(found, step.used)
 }
 
-#[unsafe(no_mangle)]
-pub extern "C" fn morlewen_feed_end(numbers: &mut [u64; NUMBERS]) -> u64
+pub fn morlewen_feed_end(numbers: &mut [u64; NUMBERS]) -> u64
     ensures { EndsForC numbers.old result numbers.new }
 {
     let count = numbers[0] as usize;
@@ -47,16 +45,14 @@ pub extern "C" fn morlewen_feed_end(numbers: &mut [u64; NUMBERS]) -> u64
     found_word(found, 0)
 }
 
-#[unsafe(no_mangle)]
-pub extern "C" fn morlewen_feed_restart(kept: &mut [u8; Feed::ROOM], numbers: &mut [u64; NUMBERS])
+pub fn morlewen_feed_restart(kept: &mut [u8; Feed::ROOM], numbers: &mut [u64; NUMBERS])
     ensures { RestartsForC kept.new numbers.new }
 {
     *kept = [0u8; Feed::ROOM];
     *numbers = [0u64; NUMBERS];
 }
 
-#[unsafe(no_mangle)]
-pub extern "C" fn morlewen_feed_message(kept: &[u8; Feed::ROOM], numbers: &[u64; NUMBERS]) -> u64
+pub fn morlewen_feed_message(kept: &[u8; Feed::ROOM], numbers: &[u64; NUMBERS]) -> u64
     ensures { HoldsForC kept.now numbers.now result }
 {
     let count = numbers[0] as usize;

@@ -14,8 +14,7 @@ use frame::{Unwrapped, Wrapped, acknowledge, first, unwrap, wrap};
 // A frame's own COMMID, and the acknowledged one.
 pub const COMMIDS: usize = 2;
 
-#[unsafe(no_mangle)]
-pub extern "C" fn morlewen_unwrap(
+pub fn morlewen_unwrap(
     bytes: &[u8],
     commids: &mut [u32; COMMIDS],
     fields: &mut [u64; FIELDS],
@@ -28,22 +27,19 @@ pub extern "C" fn morlewen_unwrap(
     unwrap_word(unwrapped)
 }
 
-#[unsafe(no_mangle)]
-pub extern "C" fn morlewen_wrap(message: &[u8], commid: u32, buffer: &mut [u8]) -> u64
+pub fn morlewen_wrap(message: &[u8], commid: u32, buffer: &mut [u8]) -> u64
     ensures { WrapsForC message.now commid buffer.old result buffer.new }
 {
     wrap_word(wrap(message, commid, buffer))
 }
 
-#[unsafe(no_mangle)]
-pub extern "C" fn morlewen_acknowledge(commid: u32, acknowledged: u32, buffer: &mut [u8]) -> u64
+pub fn morlewen_acknowledge(commid: u32, acknowledged: u32, buffer: &mut [u8]) -> u64
     ensures { AcknowledgesForC commid acknowledged buffer.old result buffer.new }
 {
     wrap_word(acknowledge(commid, acknowledged, buffer))
 }
 
-#[unsafe(no_mangle)]
-pub extern "C" fn morlewen_frame_first(capture: &[u8]) -> usize
+pub fn morlewen_frame_first(capture: &[u8]) -> usize
     ensures { MeasuresFirst capture.now result }
 {
     first(capture)

@@ -23,29 +23,25 @@ pub const LINE: usize = 3;
 
 pub const PART: usize = 2;
 
-#[unsafe(no_mangle)]
-pub extern "C" fn morlewen_records(file: &[u8]) -> u64
+pub fn morlewen_records(file: &[u8]) -> u64
     ensures { CountsForC file.now result }
 {
     count_word(count(file))
 }
 
-#[unsafe(no_mangle)]
-pub extern "C" fn morlewen_retired_records(file: &[u8]) -> u64
+pub fn morlewen_retired_records(file: &[u8]) -> u64
     ensures { CountsRetiredForC file.now result }
 {
     count_word(count_retired(file))
 }
 
-#[unsafe(no_mangle)]
-pub extern "C" fn morlewen_check(file: &[u8]) -> u64
+pub fn morlewen_check(file: &[u8]) -> u64
     ensures { ChecksForC file.now result }
 {
     check_word(check(file))
 }
 
-#[unsafe(no_mangle)]
-pub extern "C" fn morlewen_find(file: &[u8], message_type: u16, number: u32) -> u64
+pub fn morlewen_find(file: &[u8], message_type: u16, number: u32) -> u64
     ensures { FindsForC file.now (name_for message_type number) result }
 {
     let name = Name {
@@ -55,8 +51,7 @@ pub extern "C" fn morlewen_find(file: &[u8], message_type: u16, number: u32) -> 
     find_word(find(file, name))
 }
 
-#[unsafe(no_mangle)]
-pub extern "C" fn morlewen_find_by_halving(file: &[u8], message_type: u16, number: u32) -> u64
+pub fn morlewen_find_by_halving(file: &[u8], message_type: u16, number: u32) -> u64
     ensures { HalvesForC file.now (name_for message_type number) result }
 {
     let name = Name {
@@ -66,15 +61,13 @@ pub extern "C" fn morlewen_find_by_halving(file: &[u8], message_type: u16, numbe
     find_word(find_by_halving(file, name))
 }
 
-#[unsafe(no_mangle)]
-pub extern "C" fn morlewen_ascending(file: &[u8]) -> u64
+pub fn morlewen_ascending(file: &[u8]) -> u64
     ensures { OrdersForC file.now result }
 {
     order_word(ascending(file))
 }
 
-#[unsafe(no_mangle)]
-pub extern "C" fn morlewen_line(file: &[u8], record: usize, line: &mut [u64; LINE]) -> u64
+pub fn morlewen_line(file: &[u8], record: usize, line: &mut [u64; LINE]) -> u64
     ensures { EntersForC file.now «record» line.old result line.new }
 {
     let found = entry_at(file, record);
@@ -82,8 +75,7 @@ pub extern "C" fn morlewen_line(file: &[u8], record: usize, line: &mut [u64; LIN
     line_word(found)
 }
 
-#[unsafe(no_mangle)]
-pub extern "C" fn morlewen_step(file: &[u8], record: usize, part: &mut [u64; PART]) -> u64
+pub fn morlewen_step(file: &[u8], record: usize, part: &mut [u64; PART]) -> u64
     ensures { StepsForC file.now «record» part.old result part.new }
 {
     let stepping = step(file, record);
@@ -92,8 +84,7 @@ pub extern "C" fn morlewen_step(file: &[u8], record: usize, part: &mut [u64; PAR
     step_word(reached, stepping.next - record)
 }
 
-#[unsafe(no_mangle)]
-pub extern "C" fn morlewen_compare(
+pub fn morlewen_compare(
     file: &[u8],
     record: usize,
     radio: &[u8],
@@ -104,15 +95,13 @@ pub extern "C" fn morlewen_compare(
     compare_word(compare(file, record, radio, places))
 }
 
-#[unsafe(no_mangle)]
-pub extern "C" fn morlewen_make(message: &[u8], buffer: &mut [u8]) -> u64
+pub fn morlewen_make(message: &[u8], buffer: &mut [u8]) -> u64
     ensures { MakesForC message.now buffer.old result buffer.new }
 {
     make_word(make(message, buffer))
 }
 
-#[unsafe(no_mangle)]
-pub extern "C" fn morlewen_retire(file: &[u8], record: usize, buffer: &mut [u8]) -> u64
+pub fn morlewen_retire(file: &[u8], record: usize, buffer: &mut [u8]) -> u64
     ensures { RetiresForC file.now «record» buffer.old result buffer.new }
 {
     retire_word(retire(file, record, buffer))

@@ -1,4 +1,5 @@
-// The public operations of the layers below, in numbers and slices, for programs in C and Rust (include/morlewen.h).
+// The public operations of the layers below, in numbers and slices, as programs in C and Rust call them (include/morlewen.h); `exports_c` is
+// the archive of them.
 // Rests on the crates `sum`, `envelope`, `judge`, `golden`, `feed`, `frame` and `sender`, by their promises and the laws that they export.
 #![tactic(auto)]
 

@@ -11,8 +11,7 @@ use envelope::qos::{Joining, Qos};
 // How many numbers a QoS field is.
 pub const QOS_PARTS: usize = 5;
 
-#[unsafe(no_mangle)]
-pub extern "C" fn morlewen_qos_split(field: u16, parts: &mut [u8; QOS_PARTS])
+pub fn morlewen_qos_split(field: u16, parts: &mut [u8; QOS_PARTS])
     ensures { SplitsForC field parts.new }
 {
     let split = qos::split(field);
@@ -25,8 +24,7 @@ pub extern "C" fn morlewen_qos_split(field: u16, parts: &mut [u8; QOS_PARTS])
     ];
 }
 
-#[unsafe(no_mangle)]
-pub extern "C" fn morlewen_qos_join(
+pub fn morlewen_qos_join(
     service_request: u8,
     special_handling: u8,
     network_preference: u8,

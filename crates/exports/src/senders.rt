@@ -12,8 +12,7 @@ use sender::{Answer, Bench, Flight, Next, Start};
 // How many numbers stand beside the places of those that wait.
 pub const BESIDE: usize = 4;
 
-#[unsafe(no_mangle)]
-pub extern "C" fn morlewen_sender_start(numbers: &mut [u64; BESIDE], resends: u64) -> u64
+pub fn morlewen_sender_start(numbers: &mut [u64; BESIDE], resends: u64) -> u64
     ensures { StartsForC resends numbers.old result numbers.new }
 {
     let start = Bench::new(resends);
@@ -21,8 +20,7 @@ pub extern "C" fn morlewen_sender_start(numbers: &mut [u64; BESIDE], resends: u6
     start_word(start)
 }
 
-#[unsafe(no_mangle)]
-pub extern "C" fn morlewen_sender_submit(
+pub fn morlewen_sender_submit(
     waiting: &mut [u32; Bench::PLACES],
     numbers: &mut [u64; BESIDE],
     commid: u32,
@@ -37,8 +35,7 @@ pub extern "C" fn morlewen_sender_submit(
     answer_word(answer)
 }
 
-#[unsafe(no_mangle)]
-pub extern "C" fn morlewen_sender_ack(
+pub fn morlewen_sender_ack(
     waiting: &mut [u32; Bench::PLACES],
     numbers: &mut [u64; BESIDE],
     commid: u32,
@@ -53,8 +50,7 @@ pub extern "C" fn morlewen_sender_ack(
     answer_word(answer)
 }
 
-#[unsafe(no_mangle)]
-pub extern "C" fn morlewen_sender_nak(
+pub fn morlewen_sender_nak(
     waiting: &mut [u32; Bench::PLACES],
     numbers: &mut [u64; BESIDE],
     commid: u32,
@@ -69,8 +65,7 @@ pub extern "C" fn morlewen_sender_nak(
     answer_word(answer)
 }
 
-#[unsafe(no_mangle)]
-pub extern "C" fn morlewen_sender_time_out(
+pub fn morlewen_sender_time_out(
     waiting: &mut [u32; Bench::PLACES],
     numbers: &mut [u64; BESIDE],
     commid: u32,
@@ -86,8 +81,7 @@ pub extern "C" fn morlewen_sender_time_out(
 }
 
 // How many wait.
-#[unsafe(no_mangle)]
-pub extern "C" fn morlewen_sender_waiting(
+pub fn morlewen_sender_waiting(
     waiting: &[u32; Bench::PLACES],
     numbers: &[u64; BESIDE],
 ) -> u64
@@ -98,8 +92,7 @@ pub extern "C" fn morlewen_sender_waiting(
 }
 
 // Which one is in flight.
-#[unsafe(no_mangle)]
-pub extern "C" fn morlewen_sender_flight(numbers: &[u64; BESIDE]) -> u64
+pub fn morlewen_sender_flight(numbers: &[u64; BESIDE]) -> u64
     ensures { TellsFlightForC numbers.now result }
 {
     let bench = bench_of(numbers);

@@ -1,8 +1,7 @@
 // The integrity sum, for C.
 ghost use Rattle.sum.specs.Promise.{Sums};
 
-#[unsafe(no_mangle)]
-pub extern "C" fn morlewen_crc(bytes: &[u8]) -> u32
+pub fn morlewen_crc(bytes: &[u8]) -> u32
     ensures { Sums bytes.now result }
 {
     sum::crc(bytes)

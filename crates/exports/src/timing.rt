@@ -11,8 +11,7 @@ use envelope::lateness::Lateness;
 use envelope::sequence::Sequence;
 use envelope::{Addressing, Envelope, Header, Integrity, Part, lateness, sequence};
 
-#[unsafe(no_mangle)]
-pub extern "C" fn morlewen_lateness_from_entry(
+pub fn morlewen_lateness_from_entry(
     addressed: u8,
     ttl: u16,
     entry: u64,
@@ -25,15 +24,13 @@ pub extern "C" fn morlewen_lateness_from_entry(
     lateness_number(lateness::judge(judged, entry, clock))
 }
 
-#[unsafe(no_mangle)]
-pub extern "C" fn morlewen_distance(old: u32, new: u32) -> i32
+pub fn morlewen_distance(old: u32, new: u32) -> i32
     ensures { Distance old new result }
 {
     sequence::distance(old, new)
 }
 
-#[unsafe(no_mangle)]
-pub extern "C" fn morlewen_sequence(old: u32, new: u32) -> u64
+pub fn morlewen_sequence(old: u32, new: u32) -> u64
     ensures { JudgesSequenceForC old new result }
 {
     sequence_word(sequence::judge(old, new))

@@ -10,8 +10,7 @@ use judge::{Judging, Lowest, Verdict, judge};
 // How many rules reading has.
 pub const RULES: usize = 7;
 
-#[unsafe(no_mangle)]
-pub extern "C" fn morlewen_judge(bytes: &[u8], verdicts: &mut [u8; RULES]) -> u64
+pub fn morlewen_judge(bytes: &[u8], verdicts: &mut [u8; RULES]) -> u64
     ensures { JudgesForC bytes.now result verdicts.new }
 {
     let judging = judge(bytes);
@@ -19,8 +18,7 @@ pub extern "C" fn morlewen_judge(bytes: &[u8], verdicts: &mut [u8; RULES]) -> u6
     lowest_word(judging.lowest())
 }
 
-#[unsafe(no_mangle)]
-pub extern "C" fn morlewen_judge_places(
+pub fn morlewen_judge_places(
     bytes: &[u8],
     verdicts: &mut [u8; RULES],
     places: &mut [u64; RULES],

@@ -50,8 +50,8 @@ fn put_frame(message_type: u8, commid: u32, body: &[u8], buffer: &mut [u8])
     ensures { buffer.new ≡ put_down (frame message_type commid body.now) buffer.old }
 {
     let header = header_digits(message_type, commid, body.len());
-    bytes::copy(&header, buffer);
-    bytes::copy(body, &mut buffer[layout::BODY_PLACE..]);
+    buffer[..layout::BODY_PLACE].copy_from_slice(&header);
+    buffer[layout::BODY_PLACE..layout::BODY_PLACE + body.len()].copy_from_slice(body);
     buffer[layout::BODY_PLACE + body.len()] = layout::ETX;
 }
 

@@ -17,7 +17,7 @@ use Rattle.golden.specs.File.{bad_file, count_of, judged_at}
 use Rattle.golden.specs.Finding.{NameFields, has_name, name_of, FindAnswer, found, refused, finding}
 use Rattle.golden.specs.Pairing.{is_named, pairs}
 use Rattle.golden.specs.Record.{Judged, good, bad}
-use Rattle.golden.specs.Theorems.{GoodAt, Sound, Passed, CheckedAreSound, SoundAreChecked, FirstRefused, not_a_file, bad_record, repeated, CheckNamesTheFirst, FirstRefusedIsNamed, OneName, NoTwoOfOneName, Later, RefusesTheLater, LaterIsRefused, NamedBy, AnyTwoAreRefused, EarlierIsFound, TakenOut, FewerStillPass, NotNamed, FirstNamed, first, none, FindsTheFirst, TheOne, one, FindsTheOne, FindReason, no_file, first_bad, first_named_lem, none_named}
+use Rattle.golden.specs.Theorems.{GoodAt, Sound, Passed, CheckedAreSound, SoundAreChecked, FirstRefused, not_a_file, bad_record, repeated, CheckNamesTheFirst, FirstRefusedIsNamed, OneName, NoTwoOfOneName, Later, RefusesTheLater, LaterIsRefused, NamedBy, AnyTwoAreRefused, EarlierIsFound, FewerStillPass, NotNamed, FirstNamed, first, none, FindsTheFirst, TheOne, one, FindsTheOne, FindReason, no_file, first_bad, first_named_lem, none_named}
 use Rattle.golden.proofs.FileLaws.{one_more, same_judged, bad_gives}
 use Rattle.golden.proofs.FoundLaws.{find_gives_its_reason, reason_settles_find}
 use Rattle.golden.proofs.NameLaws.{has_its_own_name}
@@ -204,7 +204,7 @@ any_two_are_refused f i k h a l good-to o = by (checking f) refl (verdict f)
 not_yet : (f : List ℕ) (i k : ℕ) (name : NameFields) (earlier : Fields) → judged_at f k ≡ good false earlier → name_of earlier ≡ name → GoodAt f i
     → pairs (judged_at f k) (judged_at f i) ≡ false → NotNamed f name i
 not_yet f i k name earlier e same g p =
-    record { retired = g.retired; fields = g.fields; judged = g.judged; other = rw (e, g.judged, same) at p }
+    record { retired = g.retired; fields = g.fields; judged = g.judged; other = subst (λ (x : NameFields). is_named x (good g.retired g.fields) ≡ false) same (rw (e, g.judged) at p) }
 
 pub earlier_is_found : EarlierIsFound
 earlier_is_found f k h w =
@@ -221,7 +221,7 @@ earlier_is_found f k h w =
     h
     (omega arith)
     o.first_lives
-    (rw (← same) (has_its_own_name o.first))
+    (subst (λ (x : NameFields). has_name x o.first ≡ true) same (has_its_own_name o.first))
     (λ m a. not_yet f m i name o.first o.first_lives same (w.sound.records m (omega arith)) (w.sound.apart m i a b)))
 
 pub fewer_still_pass : FewerStillPass

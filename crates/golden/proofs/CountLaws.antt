@@ -2,7 +2,7 @@
 -- Inductions on the records that are counted.
 use mathlib.Core.Bool.{Bool, true, false, cond, not}
 use mathlib.Core.List.{List}
-use mathlib.Core.Path.{◌≡◌, refl, ap, sym, ◌∙◌}
+use mathlib.Core.Path.{◌≡◌, refl}
 use Prim.Native.Nat.{ℕ, zero, suc, ◌+◌, ◌≤◌, ◌<◌}
 use native.Mathlib.Decide.{dec_lt}
 use native.Mathlib.Numerals.{add-one}
@@ -18,7 +18,7 @@ use Rattle.golden.specs.Listing.{counted, refused, one_if_retired, retired_below
 use Rattle.golden.specs.Record.{head_size, stored_word, retired_mark, stored_length, all_zero, bad_length, Judged, good, bad, by_reading}
 use Rattle.golden.specs.Retired.{RetiredOne, RetireCountsOne}
 use Rattle.golden.specs.WithoutMark.{message_before, judging_before, NoneRetired}
-use Rattle.golden.specs.Retiring.{marked, done, retiring}
+use Rattle.golden.specs.Retiring.{marked}
 use Rattle.golden.specs.Theorems.{counted_number, RetiredAreFew}
 use Rattle.golden.proofs.FileLaws.{whole_file}
 use Rattle.golden.proofs.RetiredLaws.{same_or_not, same_count, same_whole, retire_marks_one}

@@ -1,39 +1,32 @@
 -- The record of a message as the two copies leave it, and the cases of making one.
 -- `m` is the message, and `record_of m` its record.
-use mathlib.Core.List.{List, [], ◌∷◌, ◌++◌, append-nil}
-use mathlib.Core.Path.{◌≡◌, ap, ap₂, sym, ◌∙◌}
-use Prim.Native.Nat.{ℕ, zero, suc, ◌-◌, ◌/◌, ◌%◌, ◌≤◌, ◌<◌}
+use mathlib.Core.List.{List, ◌∷◌, ◌++◌}
+use mathlib.Core.Path.{◌≡◌, sym}
+use Prim.Native.Nat.{ℕ, zero, suc, ◌+◌, ◌-◌, ◌/◌, ◌%◌, ◌≤◌, ◌<◌}
+use native.Mathlib.Nat.{add-sub_cancel_left}
 use native.Mathlib.Omega.{arith}
 use borrow.Author.Tests.{lt-ltb, le-ltb, eq-eqb, ne_eqb}
-use lib.ListN.{length, take, drop, replicate, drop_of_length-le, length-append, length-replicate}
-use lib.Seq.{take-length}
+use lib.ListN.{length, drop, replicate, length-append, length-replicate}
 use Rattle.envelope.specs.Fields.{Fields, Refusal, accepted, refused}
 use Rattle.envelope.specs.Reading.{reading}
 use Rattle.envelope.specs.Refusals.{plainly, passing_on}
 use Rattle.golden.specs.Making.{record_of, MakeAnswer, made, refused, making, after_making}
-use Rattle.golden.specs.Record.{record_size, message_room}
+use Rattle.golden.specs.Record.{record_size, head_size, message_room}
 
 drop_replicate : (n k : ℕ) → drop {A = ℕ} n (replicate k 0) ≡ replicate (k - n) 0
 drop_replicate zero k = let e : k - 0 ≡ k = omega arith in rw e
 drop_replicate (suc n) zero = let e : 0 - suc n ≡ 0 = omega arith in rw e
 drop_replicate (suc n) (suc k) = let e : suc k - suc n ≡ k - n = omega arith in rw e (drop_replicate n k)
 
--- length, message and zeros, as the copy into a fresh record leaves them
-pub fresh_record : (m l : List ℕ) → l ≡ take (length m) m ++ drop (length m) (replicate message_room 0)
-    → (length m / 256) ∷ (length m % 256) ∷ (l ++ []) ≡ record_of m
+-- length, message and zeros, as the copy into a fresh record leaves them; `l` is the part copied over
+pub fresh_record : (m l : List ℕ) → l ≡ m
+    → (length m / 256) ∷ (length m % 256) ∷ (l ++ drop ((head_size + length m) - head_size) (replicate message_room 0)) ≡ record_of m
 unfolding record_of
-fresh_record m l e =
-    ap (λ (x : List ℕ). (length m / 256) ∷ (length m % 256) ∷ x)
-    (append-nil l ∙ e ∙ ap (λ (x : List ℕ). x ++ drop (length m) (replicate message_room 0)) (take-length m) ∙ ap (λ (x : List ℕ). m ++ x) (drop_replicate (length m) message_room))
+fresh_record m l e = rw (e, add-sub_cancel_left head_size (length m), drop_replicate (length m) message_room)
 
 pub record_length : (m : List ℕ) → length m ≤ message_room → length (record_of m) ≡ record_size
 unfolding record_of
 record_length m h = rw (length-append m (replicate (message_room - length m) 0), length-replicate) (omega arith)
-
--- a whole record copied over a buffer of its size
-pub copied_record : (b r x : List ℕ) → length b ≡ record_size → length x ≡ record_size → r ≡ take (length x) x ++ drop (length x) b → r ≡ x
-copied_record b r x hb hx e =
-    e ∙ ap₂ (λ (p q : List ℕ). p ++ q) (take-length x) (drop_of_length-le b {i = length x} (omega arith)) ∙ append-nil x
 
 -- ---- the cases of making
 

@@ -1,11 +1,10 @@
 -- Which case of `opening` holds, from the tests of `open` in their order; and a record of the file from its part.
 -- The definitions are in specs/Helpers.
-use mathlib.Core.Bool.{Bool, true, false, not}
+use mathlib.Core.Bool.{Bool, true, false}
 use mathlib.Core.List.{List}
 use mathlib.Core.Path.{◌≡◌, ap, ◌∙◌}
 use Prim.Native.Nat.{ℕ, ◌+◌, ◌-◌, ◌*◌}
 use native.Mathlib.Nat.{add-sub_cancel_left}
-use borrow.Author.Tests.{not-true, not-false}
 use lib.ListN.{length, take, drop}
 use Rattle.envelope.specs.Fields.{Answer}
 use Rattle.envelope.specs.Reading.{reading}
@@ -24,15 +23,15 @@ module _ (r : List ℕ) (l : ℕ) (e : l ≡ stored_length r) where
     zeros : b ≡ all_zero (drop (head_size + l) r)
     zeros = z ∙ ap all_zero (part_to_end (head_size + l) r)
 
-    pub opened_24 : not b ≡ true → bad (plainly 24) ≡ opening r
+    pub opened_24 : b ≡ false → bad (plainly 24) ≡ opening r
     unfolding opening judging
-    opened_24 n = rw (← e, h, ← zeros, not-true b n)
+    opened_24 n = rw (← e, h, ← zeros, n)
 
-    pub opened_by : not b ≡ false → (mark : Bool) → mark ≡ is_retired r → (a : Answer) → a ≡ reading (take ((head_size + l) - head_size) (drop head_size r))
+    pub opened_by : b ≡ true → (mark : Bool) → mark ≡ is_retired r → (a : Answer) → a ≡ reading (take ((head_size + l) - head_size) (drop head_size r))
         → opened_as l (by_reading mark a) ≡ opening r
     unfolding opening judging
     opened_by n mark m a q =
-        rw (← e, h, ← zeros, not-false b n, ← m)
+        rw (← e, h, ← zeros, n, ← m)
         (ap (λ (x : Answer). opened_as l (by_reading mark x)) (q ∙ ap (λ (k : ℕ). reading (take k (drop head_size r))) (add-sub_cancel_left head_size l)))
 
 -- the part of 512 bytes that is lent is the record

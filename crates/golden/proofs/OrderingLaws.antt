@@ -7,16 +7,15 @@ use Prim.Native.Nat.{ℕ, zero, suc, ◌+◌, ◌-◌, ◌≤◌, ◌<◌}
 use native.Mathlib.Omega.{arith}
 use borrow.Author.Tests.{ne_eqb}
 use lib.Dec.{eqb}
-use Rattle.envelope.proofs.BoolLaws.{true_is_not_false}
 use Rattle.envelope.proofs.PassLaws.{On, on_plainly}
 use Rattle.envelope.specs.Fields.{Fields}
-use Rattle.envelope.specs.Refusals.{Refused, plainly, place_in, Gives}
+use Rattle.envelope.specs.Refusals.{Refused, plainly, Gives}
 use Rattle.golden.specs.File.{most_records, bad_file, count_of, record_at, judged_at}
 use Rattle.golden.specs.Finding.{NameFields, name_of}
 use Rattle.golden.specs.Gives.{OrderGives}
 use Rattle.golden.specs.Halved.{Ascending, AscendsIsAscending, AscendingAscends, InOrderTo, OrderReason, no_golden_file, bad_there, breaks_there, all_in_order, OrderGivesItsReason, order_number, order_place, OrderNamesFew, OrderPointsShort, OrderPassesOn}
 use Rattle.golden.specs.Halving.{precedes}
-use Rattle.golden.specs.Ordering.{OrderAnswer, ascends, breaks, refused, follows, in_place, unless_out, order_from, ordering}
+use Rattle.golden.specs.Ordering.{OrderAnswer, ascends, breaks, refused, in_place, unless_out, order_from, ordering}
 use Rattle.golden.specs.Record.{message_room, message_of, Judged, good, bad}
 use Rattle.golden.specs.Theorems.{GoodAt}
 use Rattle.golden.proofs.CheckedLaws.{checked_are_sound}

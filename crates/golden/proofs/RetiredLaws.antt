@@ -9,7 +9,7 @@ use native.Mathlib.Omega.{arith}
 use borrow.Author.Tests.{lt-leb}
 use lib.Dec.{eqb}
 use lib.ListN.{length}
-use Rattle.envelope.proofs.BoolLaws.{is_false, true_is_not_false}
+use Rattle.envelope.proofs.BoolLaws.{true_is_not_false}
 use Rattle.envelope.proofs.PassLaws.{On, on_plainly}
 use Rattle.envelope.specs.Numbers.{byte_at}
 use Rattle.envelope.specs.Refusals.{Refused, plainly}
@@ -21,16 +21,16 @@ use Rattle.golden.specs.Pairing.{is_named, pairs}
 use Rattle.golden.specs.Record.{record_size, message_room, message_of, Judged, good, bad}
 use Rattle.golden.specs.Retired.{RetiredOne, RetireMarksOne, RetiredIsWritten, RetiredStillPasses, RetiredIsNotFound, OthersAreFound, NameIsWithdrawn, RetiredTwice, RetiredAreBytes, RefusedRetiringKeepsBuffer, retire_place, RetirePointsShort, RetirePassesOn}
 use Rattle.golden.specs.Retiring.{marked, RetireAnswer, done, refused, retiring_judged, retiring, after_retiring}
-use Rattle.golden.specs.Theorems.{GoodAt, Sound, Passed, NotNamed, TheOne, one, none, FindReason, no_file, first_bad, first_named_lem, none_named}
+use Rattle.golden.specs.Theorems.{GoodAt, Passed, NotNamed, TheOne, one, none, FindReason, no_file, first_bad, first_named_lem, none_named}
 use Rattle.golden.proofs.CheckedLaws.{checked_are_sound, sound_are_checked, only, finds_the_one}
-use Rattle.golden.proofs.FileLaws.{Whole, whole_file, file_whole}
+use Rattle.golden.proofs.FileLaws.{whole_file, file_whole}
 use Rattle.golden.proofs.FoundLaws.{find_gives_its_reason, reason_settles_find, found_is_first}
 use Rattle.golden.proofs.MarkedLaws.{marked_one}
 use Rattle.golden.proofs.PairingLaws.{pairs_with_retired}
 use Rattle.golden.proofs.PassLaws.{bad_on}
 use Rattle.golden.proofs.PointLaws.{bad_points}
 use Rattle.golden.proofs.RecordLaws.{bad_is_not_good}
-use Rattle.golden.proofs.RetiringLaws.{Allowed, allowed}
+use Rattle.golden.proofs.RetiringLaws.{allowed}
 
 pub retire_marks_one : RetireMarksOne
 retire_marks_one f n room e = let a = allowed f n room e in marked_one f n a.there a.fields a.live

@@ -1,14 +1,13 @@
 -- The cases of retiring, from the answer of a step; and what `done` says of file, record and room.
 -- The step of the walk has judged the record already; its answer is taken back to the definition.
 use mathlib.Core.Bool.{Bool, true, false, cond, not}
-use mathlib.Core.List.{List, ◌++◌, append-nil}
-use mathlib.Core.Path.{◌≡◌, refl, ap, ap₂, sym, ◌∙◌}
-use Prim.Native.Nat.{ℕ, ◌+◌, ◌*◌, ◌≤◌, ◌<◌}
+use mathlib.Core.List.{List}
+use mathlib.Core.Path.{◌≡◌, refl, ap}
+use Prim.Native.Nat.{ℕ, ◌+◌, ◌*◌, ◌<◌}
 use native.Mathlib.Omega.{arith}
-use borrow.Author.Tests.{eqb-true, eq-eqb, ne_eqb, leb-false, not-false}
+use borrow.Author.Tests.{eqb-true, eq-eqb, ne_eqb, leb-false}
 use lib.Dec.{eqb}
-use lib.ListN.{length, take, drop, set, drop_of_length-le}
-use lib.Seq.{take-length}
+use lib.ListN.{length, set}
 use Rattle.envelope.specs.Fields.{Span, Fields}
 use Rattle.envelope.specs.Numbers.{byte_at}
 use Rattle.envelope.specs.Refusals.{Refused, plainly}
@@ -98,12 +97,10 @@ allowed f n room e = allowed_by f n room (bad_file f) (not_there f n) (judged_at
 -- ---- the buffer
 
 -- the file copied over a buffer of its length, and one byte set
-pub copied_marked : (f : List ℕ) (n : ℕ) (b x : List ℕ) → length b ≡ length f → x ≡ take (length f) f ++ drop (length f) b
+pub copied_marked : (f : List ℕ) (n : ℕ) (x : List ℕ) → x ≡ f
     → set x (n * record_size) (top_bit + byte_at f (n * record_size)) ≡ marked f n
 unfolding marked
-copied_marked f n b x h e =
-    let whole : x ≡ f = e ∙ ap₂ (λ (p q : List ℕ). p ++ q) (take-length f) (drop_of_length-le b {i = length f} (omega arith)) ∙ append-nil f in
-    ap (λ (y : List ℕ). set y (n * record_size) (top_bit + byte_at f (n * record_size))) whole
+copied_marked f n x whole = ap (λ (y : List ℕ). set y (n * record_size) (top_bit + byte_at f (n * record_size))) whole
 
 pub no_retiring : (f : List ℕ) (n : ℕ) (entry : List ℕ) (a : RetireAnswer) (r : Refused) → refused r ≡ a → (refused r ≡ a) × (entry ≡ after_retiring a f n entry)
 no_retiring f n entry a r e = (e, rw (← e))

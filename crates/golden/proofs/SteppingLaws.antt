@@ -10,7 +10,7 @@ use borrow.Author.Tests.{lt-leb}
 use lib.ListN.{take, drop}
 use lib.Seq.{drop-drop}
 use Rattle.envelope.proofs.RebuiltLaws.{part_of_front}
-use Rattle.envelope.specs.Fields.{Span, Fields, part_of}
+use Rattle.envelope.specs.Fields.{Fields, part_of}
 use Rattle.envelope.specs.Refusals.{plainly}
 use Rattle.golden.specs.File.{bad_file, count_of, not_there, record_at, judged_at}
 use Rattle.golden.specs.Listing.{entry_of, entry_at}

@@ -2,7 +2,7 @@
 -- And what passed the check before has no top bit, since a length is at most 510.
 use mathlib.Core.Bool.{Bool, true, false, cond, not}
 use mathlib.Core.List.{List}
-use mathlib.Core.Path.{◌≡◌, refl, ap, ap₂, sym, ◌∙◌}
+use mathlib.Core.Path.{◌≡◌, refl, ap, ap₂, ◌∙◌}
 use Prim.Native.Nat.{ℕ, zero, suc, ◌+◌, ◌*◌, ◌<◌}
 use native.Mathlib.Omega.{arith}
 use borrow.Author.Tests.{lt-leb, leb-false}
@@ -21,7 +21,7 @@ use Rattle.golden.specs.Finding as find
 use Rattle.golden.specs.Listing.{line, entry_of, entry_at}
 use Rattle.golden.specs.Listing as list
 use Rattle.golden.specs.Pairing.{pairs}
-use Rattle.golden.specs.Record.{record_size, head_size, message_room, stored_word, retired_mark, is_retired, stored_length, message_of, all_zero, bad_length, not_clear, Judged, good, bad, by_reading, judging}
+use Rattle.golden.specs.Record.{record_size, head_size, stored_word, retired_mark, is_retired, stored_length, message_of, all_zero, bad_length, not_clear, Judged, good, bad, by_reading, judging}
 use Rattle.golden.specs.Stepping.{message, end, step_of, step_at, message_part, nowhere, stored_message}
 use Rattle.golden.specs.Stepping as step
 use Rattle.golden.specs.WithoutMark.{message_before, judging_before, judged_before, repeats_before, check_from_before, checking_before, find_from_before, finding_before, part_before, stored_before, step_of_before, step_before, entry_of_before, entry_before, comparing_before, MeansTheSame, UnmarkedMeansTheSame, PassedStillPasses}

@@ -36,5 +36,5 @@ fn put_record(message: &[u8], buffer: &mut [u8])
     ensures { buffer.new ≡ record_of message.now }
 {
     let fresh = Record::of(message).bytes;
-    bytes::copy(&fresh, buffer);
+    buffer.copy_from_slice(&fresh);
 }

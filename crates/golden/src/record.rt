@@ -56,7 +56,7 @@ impl Record {
         let size = two_digits(message.len() as u16);
         fresh[0] = size[0];
         fresh[1] = size[1];
-        bytes::copy(message, &mut fresh[Record::HEAD_SIZE..]);
+        fresh[Record::HEAD_SIZE..Record::HEAD_SIZE + message.len()].copy_from_slice(message);
         Record { bytes: fresh }
     }
 }

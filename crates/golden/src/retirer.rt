@@ -47,7 +47,7 @@ fn put_marked(file: &[u8], n: usize, buffer: &mut [u8])
     requires { retiring file.now n (length buffer.old) ≡ done }
     ensures { buffer.new ≡ marked file.now n }
 {
-    bytes::copy(file, buffer);
+    buffer.copy_from_slice(file);
     let place = n * Record::SIZE;
     buffer[place] = Record::TOP_BIT + file[place];
 }

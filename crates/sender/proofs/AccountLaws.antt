@@ -1,17 +1,16 @@
 -- Over any events from an empty bench, the history and the queue agree. By induction on the events, from any good queue.
-use Prim.Native.Nat.{ℕ, suc, ◌+◌, ◌-◌, ◌≤◌, ◌<◌}
+use Prim.Native.Nat.{ℕ, suc, ◌+◌, ◌≤◌, ◌<◌}
 use mathlib.Core.Path.{◌≡◌, refl, ap, sym, ◌∙◌}
 use mathlib.Core.List.{List, [], ◌∷◌, ◌++◌}
-use mathlib.Core.Option.{Option}
 use mathlib.Core.Bool.{Bool, true, false, cond}
 use lib.ListN.{length}
 use lib.Dec.{eqb}
 use native.Mathlib.Omega.{arith}
 use borrow.Author.Tests.{ne_eqb, eqb-true, eqb-false}
-use Rattle.sender.specs.Queue.{Slot, empty, holds, Queue, queue, empty_bench, Outcome, Event, Reply, sent, waits, settles, fails, again, refused, among, answering}
-use Rattle.sender.specs.Accounts.{same, those, numbers_from, counted, OneOfFour, settled_by, failed_by, all_settled, all_failed, in_slot, Accounted, Accounts}
-use Rattle.sender.specs.History.{Line, Fate, waiting, in_flight, acknowledged, failed, Submission, submission, fate, submissions, history, final}
-use Rattle.sender.proofs.StandingLaws.{Good, old, olds, with_ended, Fine, fine}
+use Rattle.sender.specs.Queue.{Slot, empty, holds, queue, empty_bench, Event, Reply, sent, waits, settles, fails, again, refused, among, answering}
+use Rattle.sender.specs.Accounts.{same, those, numbers_from, counted, settled_by, failed_by, all_settled, all_failed, in_slot, Accounts}
+use Rattle.sender.specs.History.{Fate, waiting, in_flight, acknowledged, failed, Submission, submission, fate, submissions, history, final}
+use Rattle.sender.proofs.StandingLaws.{Good, old, olds, with_ended, fine}
 
 -- what the end of a submission does to the four lists
 ended_waiting : (e : Event) (r : Reply) (ms : List Submission) → those waiting (with_ended e r ms) ≡ those waiting ms

@@ -1,13 +1,13 @@
 -- What each event answers, by the tests that lead there: the promise from its parts. `entry` are the 16 places as they were lent.
 use Prim.Native.Nat.{ℕ, ◌+◌, ◌-◌, ◌≤◌, ◌<◌}
-use mathlib.Core.Bool.{Bool, true, false}
+use mathlib.Core.Bool.{true, false}
 use mathlib.Core.List.{List, [], ◌∷◌, ◌++◌}
 use mathlib.Core.Path.{◌≡◌, refl, ap, sym, ◌∙◌}
 use lib.ListN.{length, take, drop, get_or, length-append, length-drop}
 use lib.Seq.{take_all, length-take-le}
 use native.Mathlib.Omega.{arith}
 use Rattle.sender.specs.Helpers.{in_places, Refuses, Accepts, Frees}
-use Rattle.sender.specs.Queue.{Slot, empty, holds, Queue, queue, Event, submit, ack, nak, Reply, settles, again, fails, refused, Outcome, outcome, among, placed, next, freed, is_in_flight, left, answering}
+use Rattle.sender.specs.Queue.{Slot, empty, holds, queue, Event, submit, ack, nak, settles, again, fails, refused, Outcome, outcome, among, placed, next, freed, is_in_flight, left, answering}
 use Rattle.sender.specs.Told.{told_sender_refusal, beside, State, queue_of, stored, keeping, leaving, Happening, happening, told_flight, state_of, Answers, CountsWaiting}
 use Rattle.sender.specs.declared.bench.Answer.TheVariants.{Sent, Waits, Settled, Again, Failed}
 use Rattle.sender.specs.declared.bench.Bench.{Bench}

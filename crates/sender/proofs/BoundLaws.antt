@@ -7,7 +7,7 @@ use native.Mathlib.Omega.{arith}
 use lib.ListN.{length, length-append}
 use lib.Dec.{leb, eqb}
 use borrow.Author.Tests.{leb-false}
-use Rattle.sender.specs.Queue.{Slot, empty, holds, Queue, empty_bench, Outcome, refusal, Reply, Event, submit, ack, nak, time_out, among, known, is_in_flight, left, placed, freed, submitting, acking, naking, answering}
+use Rattle.sender.specs.Queue.{Slot, empty, holds, Queue, empty_bench, Outcome, refusal, Event, submit, ack, nak, time_out, among, known, is_in_flight, left, placed, freed, submitting, acking, naking, answering}
 use Rattle.sender.specs.History.{final}
 
 abbrev Few : Queue → Type 0

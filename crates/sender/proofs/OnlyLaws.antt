@@ -9,7 +9,7 @@ use Rattle.envelope.proofs.OnlyLaws.{only_by_telling, only_told_numbers}
 use Rattle.envelope.specs.Promise.{Only₁, Only₂}
 use Rattle.envelope.specs.Refusals.{Refused, plainly, passing_on, numbers_of}
 use Rattle.sender.specs.Queue.{Slot, empty, holds, Event, Reply, sent, waits, settles, again, fails, refused}
-use Rattle.sender.specs.Told.{told_sender_refusal, NumbersSenderRefusal, Beside, State, beside, Happening, told_flight, told_next, told_answer, told_bench, told_step, Answers, CountsWaiting, StartAnswer, ready, no_bench, starting, told_start, Starts}
+use Rattle.sender.specs.Told.{told_sender_refusal, NumbersSenderRefusal, Beside, Happening, told_flight, told_next, told_answer, told_bench, told_step, Answers, CountsWaiting, StartAnswer, ready, no_bench, starting, told_start, Starts}
 use Rattle.sender.specs.declared.bench.Answer.{Answer}
 use Rattle.sender.specs.declared.bench.Answer.TheVariants.{Sent, Waits, Settled, Again, Failed, Refused as AnswerRefused}
 use Rattle.sender.specs.declared.bench.Bench.{Bench}

@@ -8,10 +8,10 @@ use lib.Dec.{leb, eqb}
 use lib.ListN.{length}
 use borrow.Author.Tests.{eqb-true}
 use Rattle.sender.specs.Accounts.{in_slot}
-use Rattle.sender.specs.History.{Line, line, commid_of, Submission, submissions, history, final}
-use Rattle.sender.specs.Order.{commids, went_out, ended, InOrder, OldestFirst}
+use Rattle.sender.specs.History.{Line, line, commid_of, submissions, history, final}
+use Rattle.sender.specs.Order.{commids, went_out, ended, OldestFirst}
 use Rattle.sender.specs.Queue.{Slot, empty, holds, Queue, queue, Event, submit, ack, nak, time_out, settles, again, fails, Outcome, outcome, refusal, among, known, placed, next, freed, is_in_flight, left, submitting, acking, naking, answering}
-use Rattle.sender.proofs.StandingLaws.{Distinct, Good, Fine, fine}
+use Rattle.sender.proofs.StandingLaws.{Good, fine}
 
 -- what a line does, before whatever lines follow it: `late` is what waits at the end, `last` what is in flight at the end
 record Moves (s : Slot) (ws : List ℕ) (e : Event) (m : Outcome) : Type 0 where

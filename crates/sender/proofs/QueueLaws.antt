@@ -1,11 +1,11 @@
 -- What each event does, by the tests that lead there.
-use Prim.Native.Nat.{ℕ, ◌+◌, ◌-◌, ◌≤◌, ◌<◌}
+use Prim.Native.Nat.{ℕ, ◌-◌, ◌≤◌, ◌<◌}
 use mathlib.Core.Path.{◌≡◌, refl, ap, sym, ◌∙◌}
 use mathlib.Core.List.{List, [], ◌∷◌, ◌++◌}
-use mathlib.Core.Bool.{Bool, true, false, ◌||◌}
+use mathlib.Core.Bool.{true, false, ◌||◌}
 use lib.ListN.{length}
 use borrow.Author.Tests.{le-leb, lt-leb, eq-eqb, ne_eqb}
-use Rattle.sender.specs.Queue.{Slot, empty, holds, Queue, queue, Outcome, outcome, refusal, waits, settles, fails, again, among, known, is_in_flight, left, placed, next, freed, submitting, acking, naking}
+use Rattle.sender.specs.Queue.{Slot, empty, holds, Queue, queue, outcome, refusal, waits, settles, fails, again, among, known, is_in_flight, left, placed, next, freed, submitting, acking, naking}
 
 -- to be known is to be in flight or among those that wait
 pub known_or : (x : ℕ) (s : Slot) (ws : List ℕ) → among x (known s ws) ≡ (is_in_flight x s || among x ws)

@@ -9,8 +9,7 @@ use borrow.Author.Tests.{le-leb, lt-leb, lt-ltb, le-ltb}
 use Rattle.envelope.specs.Refusals.{Gives}
 use Rattle.sender.specs.Queue.{Slot, empty, holds, Queue, queue, Event, submit, ack, nak, time_out, Reply, sent, waits, settles, again, fails, refused, Outcome, outcome, refusal, among, known, placed, next, freed, is_in_flight, left, submitting, acking, naking, answering}
 use Rattle.sender.specs.Refusing.{RefusalKeeps, meets, EventGives, FullFirst, ThenKnown, NotInFlight, StartRefuses, StartTakes}
-use Rattle.sender.specs.Told.{State, queue_of, leaving, Happening, told_answer, state_of, StartAnswer, ready, no_bench, starting, Starts, Answers}
-use Rattle.sender.specs.declared.bench.Answer.{Answer}
+use Rattle.sender.specs.Told.{State, queue_of, leaving, Happening, told_answer, state_of, StartAnswer, ready, no_bench, starting, Starts}
 use Rattle.sender.specs.declared.bench.Start.TheVariants.{Refused as StartRefused}
 use Rattle.sender.specs.declared.refusal.Refusal.TheVariants.{TooManyResends}
 use Rattle.sender.proofs.OnlyLaws.{same_bench, only_starts}

@@ -8,13 +8,13 @@ use lib.Dec.{eqb, leb}
 use lib.ListN.{length}
 use native.Mathlib.Omega.{arith}
 use borrow.Author.Tests.{lt-leb, eqb-true}
-use Rattle.sender.specs.Accounts.{in_slot, Accounted}
+use Rattle.sender.specs.Accounts.{in_slot}
 use Rattle.sender.specs.History.{Line, line, Fate, waiting, in_flight, acknowledged, failed, commid_of, is_settled_by, is_failed_by, goes_out_by, fate, Submission, submission, accepted, submissions, final}
 use Rattle.sender.specs.Queue.{Slot, empty, holds, Queue, queue, empty_bench, Event, submit, ack, nak, time_out, Reply, sent, waits, settles, again, fails, refused, Outcome, outcome, refusal, among, known, placed, next, freed, is_in_flight, left, submitting, acking, naking, answering}
-use Rattle.sender.specs.Reuse.{accepts, ends, UsableAtOnce, UsableLater, fate_at_first, IsNew, is_over, Stays, AllStay, FatesStay}
+use Rattle.sender.specs.Reuse.{accepts, ends, UsableAtOnce, UsableLater, fate_at_first, IsNew, is_over, AllStay, FatesStay}
 use Rattle.sender.proofs.AccountLaws.{accounts}
 use Rattle.sender.proofs.BoundLaws.{never_more}
-use Rattle.sender.proofs.StandingLaws.{Distinct, Good, Fine, fine}
+use Rattle.sender.proofs.StandingLaws.{Distinct, Good, fine}
 use Rattle.sender.proofs.AmongLaws.{among_nil}
 
 -- ---- a COMMID that is not known is accepted, while there is room

@@ -9,9 +9,9 @@ use native.Mathlib.Omega.{arith}
 use borrow.Author.Tests.{ltb-false}
 use Rattle.envelope.specs.Refusals.{plainly}
 use Rattle.sender.specs.Accounts.{those, Accounted}
-use Rattle.sender.specs.History.{Line, line, waiting, in_flight, Submission, submissions, history, final}
+use Rattle.sender.specs.History.{Line, line, waiting, in_flight, submissions, history, final}
 use Rattle.sender.specs.Order.{InOrder}
-use Rattle.sender.specs.Queue.{empty, Queue, queue, empty_bench, Event, submit, Outcome, among, answering}
+use Rattle.sender.specs.Queue.{empty, Queue, queue, empty_bench, Event, submit, among, answering}
 use Rattle.sender.specs.Reuse.{accepts}
 use Rattle.sender.specs.Runs.{AnswersAsQueue, StartsEmpty, Ran, begun, asked, Follows, RunIsHistory, UsableInRun, Shown, WhatBecame}
 use Rattle.sender.specs.Sends.{AllSent}

@@ -1,6 +1,6 @@
 -- A message that failed was sent once and as often as resends are set, and none more often. By induction on the events, from any good queue:
 -- the one in flight is sent again at most as often as it has resends left.
-use Prim.Native.Nat.{ℕ, suc, ◌+◌, ◌-◌, ◌≤◌}
+use Prim.Native.Nat.{ℕ, suc, ◌-◌, ◌≤◌}
 use mathlib.Core.Path.{◌≡◌, refl, ap, sym, ◌∙◌, subst}
 use mathlib.Core.List.{List, [], ◌∷◌, ◌++◌}
 use mathlib.Core.Option.{Option}
@@ -10,10 +10,10 @@ use lib.Dec.{leb, eqb}
 use native.Mathlib.Omega.{arith}
 use borrow.Author.Tests.{eq-eqb, eqb-true, eqb-false}
 use Rattle.envelope.specs.Refusals.{plainly}
-use Rattle.sender.specs.Queue.{Slot, empty, holds, Queue, queue, Outcome, outcome, refusal, Event, submit, ack, nak, time_out, Reply, waits, settles, fails, again, refused, among, known, is_in_flight, left, placed, next, freed, submitting, acking, naking, answering}
+use Rattle.sender.specs.Queue.{Slot, empty, holds, queue, Outcome, outcome, refusal, Event, submit, ack, nak, time_out, waits, settles, fails, again, refused, among, known, is_in_flight, left, placed, next, freed, submitting, acking, naking, answering}
 use Rattle.sender.specs.History.{Line, line, Fate, waiting, in_flight, acknowledged, failed, commid_of, is_next, fate, history}
-use Rattle.sender.specs.Sends.{sends, SentSoOften, SentBy, AllSent, SendsAreCounted}
-use Rattle.sender.proofs.StandingLaws.{Distinct, Good, eqb_swap, apart, settled_other, failed_other, settled_own, failed_own, Fine, fine}
+use Rattle.sender.specs.Sends.{sends, SentSoOften, AllSent, SendsAreCounted}
+use Rattle.sender.proofs.StandingLaws.{Distinct, Good, eqb_swap, apart, settled_other, failed_other, settled_own, failed_own, fine}
 
 -- of the one in flight, with k resends left
 abbrev Flown : ℕ → Fate → ℕ → Type 0

@@ -1,6 +1,6 @@
 -- No COMMID stands twice in the queue, and an empty slot has nothing waiting: what every event keeps.
 -- With it, one event at a time: the submissions of a history, split into those that the queue already holds and the later ones.
-use Prim.Native.Nat.{ℕ, ◌+◌, ◌-◌}
+use Prim.Native.Nat.{ℕ, ◌-◌}
 use mathlib.Core.Path.{◌≡◌, refl, ap, sym, ◌∙◌}
 use mathlib.Core.List.{List, [], ◌∷◌, ◌++◌, append_assoc}
 use mathlib.Core.Option.{Option}
@@ -10,8 +10,8 @@ use lib.Dec.{leb, eqb}
 use native.Mathlib.Omega.{arith}
 use borrow.Author.Tests.{eq-eqb, ne_eqb, eqb-true, eqb-false}
 use Rattle.envelope.specs.Refusals.{plainly}
-use Rattle.sender.specs.Queue.{Slot, empty, holds, Queue, queue, Outcome, outcome, refusal, Event, submit, ack, nak, time_out, Reply, sent, waits, settles, fails, again, refused, among, known, is_in_flight, left, placed, next, freed, submitting, acking, naking, answering}
-use Rattle.sender.specs.History.{Line, line, Fate, waiting, acknowledged, failed, Submission, submission, commid_of, is_next, fate, submissions}
+use Rattle.sender.specs.Queue.{Slot, empty, holds, queue, Outcome, outcome, refusal, Event, submit, ack, nak, time_out, Reply, sent, waits, settles, fails, again, refused, among, known, is_in_flight, left, placed, next, freed, submitting, acking, naking, answering}
+use Rattle.sender.specs.History.{Line, line, acknowledged, failed, Submission, submission, commid_of, is_next, fate, submissions}
 use Rattle.envelope.proofs.BoolLaws.{neither}
 use Rattle.sender.proofs.AmongLaws.{among_nil}
 

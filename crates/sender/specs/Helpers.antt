@@ -1,6 +1,6 @@
 -- Meanings of the private helpers. Nothing that a public promise says is defined here.
 use Rattle.std.specs.Prelude.{ℕ, cond, List, ◌≡◌, ltb, take}
-use Rattle.sender.specs.Queue.{most_waiting, refused, Outcome, placed, next, freed}
+use Rattle.sender.specs.Queue.{most_waiting, refused, placed, next, freed}
 use Rattle.sender.specs.Told.{queue_of, keeping, told_sender_refusal, told_flight, told_next, told_answer, state_of}
 use Rattle.sender.specs.declared.bench.Bench.{Bench}
 use Rattle.sender.specs.declared.bench.Freed.{Freed}

@@ -2,7 +2,7 @@
 -- No state has a part in this reading: it goes by COMMIDs and answers, from line to line.
 use Rattle.std.specs.Prelude.{ℕ, Bool, true, false, cond, ◌||◌, List, [], ◌∷◌, eqb}
 use Rattle.std.proofs.Math.Option.{Option, none, some}
-use Rattle.sender.specs.Queue.{Queue, Event, submit, ack, nak, time_out, Reply, sent, waits, settles, again, fails, refused, Outcome, answering}
+use Rattle.sender.specs.Queue.{Queue, Event, submit, ack, nak, time_out, Reply, sent, waits, settles, again, fails, refused, answering}
 
 -- ---- a history: its lines, the oldest first
 

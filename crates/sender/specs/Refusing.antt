@@ -1,8 +1,8 @@
 -- Refusals change nothing, and which event can meet which, in order. RULES 13.
 -- Proofs in proofs/RefusingLaws.
-use Rattle.std.specs.Prelude.{ℕ, ◌≤◌, ◌<◌, Bool, true, false, List, [], ◌∷◌, ◌≡◌, length}
-use Rattle.envelope.specs.Refusals.{Refused, plainly, Gives}
-use Rattle.sender.specs.Queue.{most_waiting, Queue, Event, submit, ack, nak, time_out, refused, Outcome, among, known, is_in_flight, answering}
+use Rattle.std.specs.Prelude.{ℕ, ◌≤◌, ◌<◌, true, false, List, [], ◌∷◌, ◌≡◌, length}
+use Rattle.envelope.specs.Refusals.{plainly, Gives}
+use Rattle.sender.specs.Queue.{most_waiting, Queue, Event, submit, ack, nak, time_out, refused, among, known, is_in_flight, answering}
 use Rattle.sender.specs.Told.{most_resends, told_sender_refusal, Starts, Answers}
 use Rattle.sender.specs.declared.bench.Answer.TheVariants.{Refused as AnswerRefused}
 use Rattle.sender.specs.declared.bench.Bench.{Bench}

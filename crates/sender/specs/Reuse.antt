@@ -3,7 +3,7 @@
 use Rattle.std.specs.Prelude.{ℕ, ◌<◌, Bool, true, false, List, [], ◌∷◌, ◌++◌, ◌≡◌, length}
 use Rattle.sender.specs.Accounts.{those}
 use Rattle.sender.specs.History.{Line, line, Fate, waiting, in_flight, acknowledged, failed, commid_of, Submission, submission, submissions, history, final}
-use Rattle.sender.specs.Queue.{most_waiting, empty_bench, Event, submit, Reply, sent, waits, settles, again, fails, refused, Outcome, among, answering}
+use Rattle.sender.specs.Queue.{most_waiting, empty_bench, Event, submit, Reply, sent, waits, settles, again, fails, refused, among, answering}
 
 abbrev pub accepts : Reply → Bool
 accepts sent = true

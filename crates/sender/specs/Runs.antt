@@ -2,14 +2,13 @@
 -- Proofs in proofs/RunLaws.
 use Rattle.std.specs.Prelude.{ℕ, ◌≤◌, ◌<◌, true, false, List, [], ◌∷◌, ◌++◌, ◌≡◌, length}
 use Rattle.sender.specs.Accounts.{those, Accounted}
-use Rattle.sender.specs.History.{Line, line, waiting, in_flight, Submission, submissions, history, final}
+use Rattle.sender.specs.History.{Line, line, waiting, in_flight, submissions, history, final}
 use Rattle.sender.specs.Order.{InOrder}
-use Rattle.sender.specs.Queue.{most_waiting, Queue, empty_bench, Event, submit, Outcome, among, answering}
+use Rattle.sender.specs.Queue.{most_waiting, Queue, empty_bench, Event, submit, among, answering}
 use Rattle.sender.specs.Reuse.{accepts}
 use Rattle.sender.specs.Sends.{AllSent}
 use Rattle.sender.specs.Told.{most_resends, queue_of, told_answer, state_of, Starts, Answers}
 use Rattle.sender.specs.declared.bench.Bench.{Bench}
-use Rattle.sender.specs.declared.bench.Start.{Start}
 use Rattle.sender.specs.declared.bench.Start.TheVariants.{Ready}
 use Rattle.sender.specs.declared.bench.Step.{Step}
 

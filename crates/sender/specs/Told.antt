@@ -4,7 +4,7 @@ use Rattle.std.specs.Prelude.{ℕ, ◌-◌, ◌≤◌, cond, List, ◌++◌, ◌
 use Rattle.std.proofs.Math.Option.{Option, none, some}
 use Rattle.envelope.specs.Refusals.{Refused, plainly, TellsNumbers}
 use Rattle.envelope.specs.declared.refusals.Numbers.{Numbers}
-use Rattle.sender.specs.Queue.{most_waiting, Slot, empty, holds, Queue, queue, Event, Reply, sent, waits, settles, again, fails, refused, Outcome, answering}
+use Rattle.sender.specs.Queue.{most_waiting, Slot, empty, holds, Queue, queue, Event, Reply, sent, waits, settles, again, fails, refused, answering}
 use Rattle.sender.specs.declared.bench.Answer.{Answer}
 use Rattle.sender.specs.declared.bench.Answer.TheVariants.{Sent, Waits, Settled, Again, Failed, Refused as AnswerRefused}
 use Rattle.sender.specs.declared.bench.Bench.{Bench}
