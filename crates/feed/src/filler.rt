@@ -57,5 +57,5 @@ pub(crate) fn lay(kept: &mut [u8], place: usize, part: &[u8])
     requires { (length kept.old ≡ room) × (place + length part.now ≤ room) }
     ensures { kept.new ≡ laid_in kept.old place part.now }
 {
-    bytes::copy(part, &mut kept[place..]);
+    kept[place..place + part.len()].copy_from_slice(part);
 }
