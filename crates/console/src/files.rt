@@ -1,7 +1,8 @@
 // Files opened for reading only and taken whole, and standard input, which goes by the name of a hyphen.
-// Rests on the kit's `check`, and on std's files and readers.
+// Rests on the kit's `check`, on `folders`, and on std's files and readers.
+use crate::folders::is_there;
 use check::same;
-use std::io::{Error, Input, Read, Result};
+use std::io::{Error, ErrorKind, Input, Read, Result};
 use std::rt::Files;
 use std::{fs, str};
 
@@ -39,11 +40,19 @@ pub fn take(rt: &(impl Files + Input), name: &[u8], buffer: &mut [u8]) -> Conten
     }
 }
 
-// Paths are text here, so no file goes by a name that is not.
+// A file is opened by text alone, so one whose name is no text is there and yet not opened.
 fn open<R: Files>(rt: &R, name: &[u8]) -> Result<R::File> {
     match str::from_utf8(name) {
         Ok(path) => fs::open(rt, path),
-        Err(_) => Err(Error::from_raw_os_error(NO_SUCH_FILE)),
+        Err(_) => Err(reason_of(is_there(rt, name))),
+    }
+}
+
+fn reason_of(there: Result<bool>) -> Error {
+    match there {
+        Ok(true) => Error::from(ErrorKind::InvalidFilename),
+        Ok(false) => Error::from_raw_os_error(NO_SUCH_FILE),
+        Err(error) => error,
     }
 }
 

@@ -6,6 +6,7 @@ pub mod decimal;
 pub mod errors;
 pub mod files;
 pub mod filling;
+mod folders;
 mod marks;
 pub mod nearest;
 pub mod table;
