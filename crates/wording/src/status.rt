@@ -1,5 +1,5 @@
 // How a run of the tool ended.
-// Rests on std; the program ends with it.
+// Rests on std, which has the program end with its number.
 use std::process::ExitCode;
 
 #[derive(Clone, Copy)]

@@ -1,5 +1,5 @@
 // Every answer of the tool as a template, in words and plainly, and the complaints of its words and files. A template goes by its row.
-// Rests on `console`, which fills a template in. What is told is made whole and then written in one call; of a complaint, each half.
+// Rests on `console`, which fills a template in. What is told is made whole and then written in one call; a complaint is told by halves.
 use crate::status::Status;
 use console::errors;
 use console::filling::fill;
