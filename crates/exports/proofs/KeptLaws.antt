@@ -33,7 +33,7 @@ use Rattle.exports.specs.Senders.{reply_slots, numbers_after, SenderLent, sender
 use Rattle.exports.specs.Word.{Slots, word}
 use Rattle.sender.specs.Queue.{Queue, Event, Outcome, answering, Reply, sent, waits, settles, again, fails}
 use Rattle.sender.specs.Queue as sender
-use Rattle.sender.specs.Told.{State, Beside, queue_of, leaving, StartAnswer, ready, no_bench, starting}
+use Rattle.sender.specs.Told.{queue_of, leaving, StartAnswer, ready, no_bench, starting}
 use mathlib.Core.Option.{Option, none, some}
 
 -- an answer with the number 0 is no refusal

@@ -11,7 +11,7 @@ use lib.ListN.{length}
 use Rattle.envelope.specs.Refusals.{Refused, plainly, passing_on}
 use Rattle.sender.specs.Queue.{Slot, empty, holds, Queue, queue, Event, submit, ack, nak, time_out, Reply, sent, waits, settles, again, fails, refused, Outcome, outcome, refusal, among, known, placed, next, freed, is_in_flight, left, submitting, acking, naking, answering}
 use Rattle.exports.specs.Senders.{reply_slots, reply_in, AllCommids}
-use Rattle.exports.specs.Word.{Slots, slots, word, unword, Fits}
+use Rattle.exports.specs.Word.{slots, word, unword, Fits}
 use Rattle.exports.proofs.FitsLaws.{word_tells_its_slots}
 
 abbrev NextFits : Option ℕ → Type 0

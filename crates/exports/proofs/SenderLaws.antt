@@ -8,13 +8,13 @@ use borrow.Author.Tests.{ne_eqb}
 use lib.Dec.{eqb}
 use lib.ListN.{get_or}
 use Rattle.envelope.specs.Refusals.{Refused, numbers_of}
-use Rattle.sender.specs.Queue.{Slot, empty, holds, Event, Reply, sent, waits, settles, again, fails, refused, Outcome, answering}
-use Rattle.sender.specs.Told.{told_sender_refusal, Beside, beside, State, queue_of, leaving, Happening, happening, told_flight, told_answer, told_bench, state_of, told_step, Answers, StartAnswer}
+use Rattle.sender.specs.Queue.{Slot, empty, holds, Event, Reply, sent, waits, settles, again, fails, refused, answering}
+use Rattle.sender.specs.Told.{told_sender_refusal, Beside, beside, queue_of, leaving, Happening, happening, told_flight, told_answer, told_bench, state_of, told_step, Answers, StartAnswer}
 use Rattle.sender.specs.declared.bench.Bench.{Bench}
 use Rattle.sender.specs.declared.bench.Step.{Step}
 use Rattle.sender.specs.declared.refusal.Refusal.{Refusal}
 use Rattle.sender.specs.declared.refusal.Refusal.TheVariants.{Full, Known, NotInFlight, TooManyResends}
-use Rattle.exports.specs.Senders.{slot_for, beside_for, sender_for, flight_commid, flight_number, beside_numbers, reply_slots, numbers_after, SenderLent, sender_lent, lent_by, AnswersForC, start_numbers, StoresBench, FlightFits, BesideFits, StorageKeepsTheBench, EventForCIsEvent, EventLeavesTheBench, StartLeavesTheBench}
+use Rattle.exports.specs.Senders.{slot_for, beside_for, sender_for, flight_commid, flight_number, beside_numbers, reply_slots, numbers_after, SenderLent, sender_lent, lent_by, AnswersForC, start_numbers, FlightFits, BesideFits, StorageKeepsTheBench, EventForCIsEvent, EventLeavesTheBench, StartLeavesTheBench}
 use Rattle.exports.specs.Word.{word}
 
 -- no refusal of the sender has a place

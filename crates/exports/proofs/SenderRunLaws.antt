@@ -7,20 +7,17 @@ use native.Mathlib.Omega.{arith}
 use borrow.Author.Tests.{le-ltb}
 use lib.Dec.{eqb, leb}
 use lib.ListN.{length, get_or, take, replicate}
-use Rattle.sender.specs.Accounts.{Accounted}
 use Rattle.sender.specs.History.{Line, line, commid_of, history, final}
-use Rattle.sender.specs.Order.{InOrder}
 use Rattle.sender.specs.Queue.{Slot, empty, holds, Queue, queue, empty_bench, Event, submit, ack, nak, time_out, Reply, sent, waits, settles, again, fails, refused, Outcome, outcome, refusal, among, known, placed, next, freed, is_in_flight, left, submitting, acking, naking, answering}
-use Rattle.sender.specs.Runs.{Follows}
 use Rattle.sender.specs.Sends.{AllSent}
-use Rattle.sender.specs.Told.{Beside, beside, State, queue_of, keeping, leaving, Happening, StartAnswer, ready, starting}
+use Rattle.sender.specs.Told.{Beside, beside, State, queue_of, keeping, leaving, StartAnswer, ready, starting}
 use Rattle.sender.proofs.AccountLaws.{accounts}
 use Rattle.sender.proofs.BoundLaws.{never_more}
 use Rattle.sender.proofs.KeptLaws.{happening_queue}
 use Rattle.sender.proofs.OrderLaws.{oldest_first}
 use Rattle.sender.proofs.RunLaws.{history_end, final_end, accounted_by, ordered_by}
 use Rattle.sender.proofs.SendLaws.{sends_are_counted}
-use Rattle.exports.specs.Senders.{beside_for, sender_for, beside_numbers, numbers_after, SenderLent, happening_for, AnswersForC, reply_in, start_numbers, FlightFits, BesideFits, AllCommids, RanForC, begun, asked, queue_for, ShownForC, RunForCIsHistory, WhatBecameForC, WhoForC}
+use Rattle.exports.specs.Senders.{beside_for, sender_for, beside_numbers, numbers_after, SenderLent, happening_for, AnswersForC, reply_in, start_numbers, FlightFits, AllCommids, RanForC, begun, asked, queue_for, RunForCIsHistory, WhatBecameForC, WhoForC}
 use Rattle.exports.specs.Word.{slots, word, unword}
 use Rattle.exports.proofs.ReplyLaws.{word_tells_reply}
 use Rattle.exports.proofs.SenderLaws.{beside_kept}

@@ -84,12 +84,7 @@ pub fn morlewen_step(file: &[u8], record: usize, part: &mut [u64; PART]) -> u64
     step_word(reached, stepping.next - record)
 }
 
-pub fn morlewen_compare(
-    file: &[u8],
-    record: usize,
-    radio: &[u8],
-    places: &mut [u32],
-) -> u64
+pub fn morlewen_compare(file: &[u8], record: usize, radio: &[u8], places: &mut [u32]) -> u64
     ensures { ComparesForC file.now «record» radio.now places.old result places.new }
 {
     compare_word(compare(file, record, radio, places))

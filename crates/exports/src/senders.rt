@@ -81,10 +81,7 @@ pub fn morlewen_sender_time_out(
 }
 
 // How many wait.
-pub fn morlewen_sender_waiting(
-    waiting: &[u32; Bench::PLACES],
-    numbers: &[u64; BESIDE],
-) -> u64
+pub fn morlewen_sender_waiting(waiting: &[u32; Bench::PLACES], numbers: &[u64; BESIDE]) -> u64
     ensures { CountsWaitingForC (sender_lent waiting.now numbers.now) result }
 {
     let bench = bench_of(numbers);

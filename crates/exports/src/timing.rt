@@ -11,12 +11,7 @@ use envelope::lateness::Lateness;
 use envelope::sequence::Sequence;
 use envelope::{Addressing, Envelope, Header, Integrity, Part, lateness, sequence};
 
-pub fn morlewen_lateness_from_entry(
-    addressed: u8,
-    ttl: u16,
-    entry: u64,
-    clock: u64,
-) -> u8
+pub fn morlewen_lateness_from_entry(addressed: u8, ttl: u16, entry: u64, clock: u64) -> u8
     ensures { JudgesLatenessForC addressed ttl entry clock result }
 {
     let addressing = addressing_of(addressed, ttl);

@@ -28,7 +28,21 @@ pub extern "C" fn morlewen_write(
 ) -> u64
     ensures { WritesForC (given_for_c message_type version flags number time addressed ttl qos source.now destination.now body.now integrity) buffer.old result buffer.new }
 {
-    exports::envelopes::morlewen_write(message_type, version, flags, number, time, addressed, ttl, qos, source, destination, body, integrity, buffer)
+    exports::envelopes::morlewen_write(
+        message_type,
+        version,
+        flags,
+        number,
+        time,
+        addressed,
+        ttl,
+        qos,
+        source,
+        destination,
+        body,
+        integrity,
+        buffer,
+    )
 }
 
 #[unsafe(no_mangle)]

@@ -3,6 +3,7 @@ ghost use Rattle.frame.specs.Capturing.{MeasuresFirst};
 ghost use Rattle.exports.specs.Frames.{lent_for, UnwrapsForC, WrapsForC, AcknowledgesForC};
 
 use exports::envelopes::FIELDS;
+use exports::frames::COMMIDS;
 
 #[unsafe(no_mangle)]
 pub extern "C" fn morlewen_unwrap(

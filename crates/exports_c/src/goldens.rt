@@ -1,8 +1,7 @@
 // Golden files, for C. The file is only read.
 ghost use Rattle.exports.specs.Goldens.{name_for, CountsForC, CountsRetiredForC, ChecksForC, FindsForC, HalvesForC, OrdersForC, EntersForC, StepsForC, ComparesForC, MakesForC, RetiresForC};
 
-use exports::goldens::LINE;
-use exports::goldens::PART;
+use exports::goldens::{LINE, PART};
 
 #[unsafe(no_mangle)]
 pub extern "C" fn morlewen_records(file: &[u8]) -> u64

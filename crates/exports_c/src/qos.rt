@@ -20,5 +20,11 @@ pub extern "C" fn morlewen_qos_join(
 ) -> u64
     ensures { JoinsForC (qos_for service_request special_handling network_preference priority class) result }
 {
-    exports::qos::morlewen_qos_join(service_request, special_handling, network_preference, priority, class)
+    exports::qos::morlewen_qos_join(
+        service_request,
+        special_handling,
+        network_preference,
+        priority,
+        class,
+    )
 }

@@ -1,8 +1,8 @@
 -- A file of 128 records in which find by halving opens eight: the first is sought, and the records at 64, 32, 16, 8, 4, 2, 1 and 0 are opened.
 -- Each record of that file is the one that its number says; the eight that are opened are computed.
-use mathlib.Core.Bool.{Bool, false}
+use mathlib.Core.Bool.{false}
 use mathlib.Core.List.{List, [], ◌∷◌, ◌++◌}
-use mathlib.Core.Path.{◌≡◌, refl, ap, sym, ◌∙◌}
+use mathlib.Core.Path.{◌≡◌, refl, ap, ◌∙◌}
 use Prim.Native.Nat.{ℕ, zero, suc, ◌+◌, ◌*◌, ◌-◌, ◌/◌, ◌<◌}
 use native.Mathlib.Omega.{arith}
 use lib.ListN.{length, take, drop, length-append}
@@ -14,8 +14,8 @@ use Rattle.envelope.specs.IntegrityField.{bad_integrity}
 use Rattle.envelope.specs.Numbers.{two_at, three_at, four_at}
 use Rattle.envelope.specs.Reading.{reading, reading_whole, fields_of, header_of, addressing_of, integrity_of}
 use Rattle.golden.specs.File.{bad_file, count_of, record_at, judged_at}
-use Rattle.golden.specs.Finding.{NameFields, FindAnswer, found}
-use Rattle.golden.specs.Halving.{precedes, half, decides_half, halving_from, halving}
+use Rattle.golden.specs.Finding.{FindAnswer, found}
+use Rattle.golden.specs.Halving.{precedes, half, decides_half, halving_from}
 use Rattle.golden.specs.Making.{record_of}
 use Rattle.golden.specs.Record.{record_size, stored_word, is_retired, stored_length, all_zero, bad_length, Judged, good, judging}
 use Rattle.golden.proofs.FileLaws.{file_whole}

@@ -3,7 +3,7 @@
 use mathlib.Core.Bool.{Bool}
 use mathlib.Core.List.{[], ◌∷◌, ◌++◌}
 use mathlib.Core.Logic.{inr}
-use mathlib.Core.Path.{◌≡◌, refl, ap, sym, ◌∙◌}
+use mathlib.Core.Path.{◌≡◌, refl, ap, sym, subst, ◌∙◌}
 use Prim.Native.Nat.{ℕ}
 use native.Mathlib.Omega.{arith}
 use Rattle.envelope.specs.Addresses.{bad_addresses}
@@ -65,7 +65,7 @@ near k p q a b l x y =
     let z : k ≡ 0 = omega (arith, count, l) in
     let first = named 0 p a (name 1) first_name (rw z at x) in
     let second = named 1 q b (name 2) second_name (rw z at y) in
-    rw (first, second) one_before_two
+    subst (λ (x : NameFields). Earlier x (name_of b)) (sym first) (subst (λ (y : NameFields). Earlier (name 1) y) (sym second) one_before_two)
 
 pub two_ascend : Ascending two
 two_ascend = neighbours_suffice two 2 small.two_pass near

@@ -9,9 +9,9 @@ use lib.Dec.{lit<, lit≤}
 use lib.ListN.{length, take, drop, replicate}
 use Rattle.envelope.specs.Refusals.{plainly, Gives}
 use Rattle.sender.specs.Accounts.{those, counted, numbers, in_slot}
-use Rattle.sender.specs.History.{Line, line, Fate, waiting, in_flight, acknowledged, failed, fate, submission, submissions, history, final}
+use Rattle.sender.specs.History.{Line, line, waiting, in_flight, acknowledged, failed, fate, submission, submissions, history, final}
 use Rattle.sender.specs.Order.{commids}
-use Rattle.sender.specs.Queue.{Queue, empty_bench, Event, submit, ack, nak, time_out, Reply, sent, waits, settles, fails, refused, Outcome, among, submitting, acking, naking, answering}
+use Rattle.sender.specs.Queue.{Queue, empty_bench, Event, submit, ack, nak, time_out, sent, waits, settles, fails, refused, among, submitting, acking, naking, answering}
 use Rattle.sender.specs.Reuse.{accepts, ends}
 use Rattle.sender.specs.Runs.{Ran, begun, asked as call, Follows, Shown}
 use Rattle.sender.specs.Sends.{sends, AllSent}
@@ -20,7 +20,7 @@ use Rattle.sender.specs.declared.bench.Answer.TheVariants.{Sent, Waits, Settled,
 use Rattle.sender.specs.declared.bench.Bench.{Bench}
 use Rattle.sender.specs.declared.bench.Flight.TheVariants.{Idle, Busy}
 use Rattle.sender.specs.declared.bench.Next.TheVariants.{Nothing, Goes}
-use Rattle.sender.specs.declared.bench.Start.TheVariants.{Ready, Refused as StartRefused}
+use Rattle.sender.specs.declared.bench.Start.TheVariants.{Refused as StartRefused}
 use Rattle.sender.specs.declared.bench.Step.{Step}
 use Rattle.sender.specs.declared.refusal.Refusal.TheVariants.{Known, TooManyResends}
 use Rattle.sheet.specs.SenderCases.{asked, told, nearly_full, full}

@@ -1,6 +1,5 @@
 -- Answers that a careless find by halving, or a careless order, would give, each refuted by computing.
 -- The files are those of specs/SmallFiles.
-use mathlib.Core.List.{List}
 use mathlib.Core.Path.{◌≡◌, ap, ◌∙◌}
 use Prim.Native.Nat.{ℕ}
 use native.Mathlib.Omega.{arith}

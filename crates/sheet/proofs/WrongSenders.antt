@@ -5,12 +5,12 @@ use mathlib.Core.List.{List, [], ◌∷◌, ◌++◌, map}
 use mathlib.Core.Option.{Option, none, some}
 use mathlib.Core.Path.{◌≡◌, ap, sym, ◌∙◌}
 use lib.ListN.{length, get_or}
-use Rattle.envelope.specs.Refusals.{Refused, RefusalNumbers, numbers_of}
+use Rattle.envelope.specs.Refusals.{RefusalNumbers, numbers_of}
 use Rattle.sender.specs.Accounts.{rank}
 use Rattle.sender.specs.History.{Fate, waiting, in_flight, acknowledged, failed, Submission, submission, submissions}
-use Rattle.sender.specs.Queue.{Slot, left, ack, nak, submit, time_out, Reply, sent, waits, settles, again, fails, refused, among, submitting, acking, naking}
+use Rattle.sender.specs.Queue.{left, ack, nak, submit, time_out, Reply, sent, waits, settles, again, fails, refused, among, submitting, acking, naking}
 use Rattle.sender.specs.Told.{stored, Happening, told_flight, told_answer, StartAnswer, ready, no_bench, NumbersSenderRefusal, Starts, Answers, CountsWaiting}
-use Rattle.sender.specs.declared.bench.Answer.TheVariants.{Sent, Waits, Settled, Again, Failed, Refused as AnswerRefused}
+use Rattle.sender.specs.declared.bench.Answer.TheVariants.{Waits, Settled, Again, Failed, Refused as AnswerRefused}
 use Rattle.sender.specs.declared.bench.Bench.{Bench}
 use Rattle.sender.specs.declared.bench.Flight.{Flight}
 use Rattle.sender.specs.declared.bench.Flight.TheVariants.{Idle, Busy}

@@ -2,11 +2,11 @@
 -- The checker computes every line, in proofs/SenderCases.
 use Rattle.std.specs.Prelude.{ℕ, List, [], ◌∷◌, ◌++◌, map, ◌≡◌}
 use Rattle.std.proofs.Math.Option.{none, some}
-use Rattle.envelope.specs.Refusals.{Refused, plainly}
+use Rattle.envelope.specs.Refusals.{plainly}
 use Rattle.sender.specs.History.{Line, waiting, in_flight, acknowledged, failed, submission, submissions, history, final}
 use Rattle.sender.specs.Order.{went_out, ended}
-use Rattle.sender.specs.Queue.{empty, holds, Queue, queue, empty_bench, Event, submit, ack, nak, time_out, Reply, sent, waits, settles, again, fails, refused, Outcome, answering}
-use Rattle.sender.specs.Told.{StartAnswer, ready, no_bench, beside, starting}
+use Rattle.sender.specs.Queue.{empty, holds, Queue, queue, empty_bench, Event, submit, ack, nak, time_out, Reply, sent, waits, settles, again, fails, refused, answering}
+use Rattle.sender.specs.Told.{ready, no_bench, beside, starting}
 
 -- ---- a history: 7 fails after two resends, 8 is acknowledged, 7 is used again and is in flight, 9 waits
 

@@ -1,3 +1,2 @@
 // The acceptance sheet as theorems: no function, only laws, in proofs/.
 #![tactic(auto)]
-

@@ -1,3 +1,4 @@
+-- `sum::by_bytes`: a byte taken leads to the same state, and with none to come what is pending is that state.
 use native.Mathlib.Omega.{arith}
 use lib.Dec.{lit<}
 use Rattle.sum.specs.Crc.{all_ones}

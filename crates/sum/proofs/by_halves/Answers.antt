@@ -1,3 +1,4 @@
+-- `sum::by_halves`: four bytes taken lead to the same state.
 use native.Mathlib.Omega.{arith}
 use Rattle.sum.proofs.Stages.{leads_on, bytes_lt}
 use Rattle.sum.proofs.by_halves.Goals as goal

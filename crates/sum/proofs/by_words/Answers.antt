@@ -1,3 +1,4 @@
+-- `sum::by_words`: at first nothing is taken, and eight bytes taken lead to the same state.
 use native.Mathlib.Omega.{arith}
 use Rattle.sum.proofs.Stages.{leads_first, leads_on}
 use Rattle.sum.proofs.by_words.Goals as goal

@@ -1,3 +1,4 @@
+-- `sum::bytes_at`: a byte pushed below those passed is the number of one byte more.
 use mathlib.Core.Path.{◌≡◌, sym, ap, ap₂, ◌∙◌}
 use Prim.Native.Nat.{ℕ, ◌+◌, ◌-◌, ◌*◌}
 use native.Mathlib.Omega.{arith}

@@ -8,9 +8,9 @@ use Rattle.envelope.proofs.addresses.addressing_of.Goals as goal
 use Rattle.envelope.proofs.addresses.addressing_of.Goals.{In-Sizes}
 
 -- where both ends are found
-at-ends : (c : In-Sizes) →
+at_ends : (c : In-Sizes) →
     Found c.args.bytes.now c.args.v c.in-Sizes.source c.in-Sizes.destination
-at-ends c =
+at_ends c =
     ends_found c.args.bytes.now c.args.v _ _ (c.requires.1 c.if-v-eq0.false)
     (ap told_ends (sym c.in-Sizes.is) ∙ c.ends_of.ensures)
 
@@ -25,10 +25,10 @@ pub slice_bounds-ends_of-start : goal.slice_bounds-ends_of-start
 slice_bounds-ends_of-start c = let h = c.requires.1 c.if-v-eq0.false in omega arith
 
 pub overflow_add-result : goal.overflow_add-result
-overflow_add-result c = let k = at-ends (goal.at.overflow_add-result c).In-Sizes in omega (arith, k.small)
+overflow_add-result c = let k = at_ends (goal.at.overflow_add-result c).In-Sizes in omega (arith, k.small)
 
 pub overflow_add-result-in-Sizes : goal.overflow_add-result-in-Sizes
-overflow_add-result-in-Sizes c = let k = at-ends (goal.at.overflow_add-result-in-Sizes c).In-Sizes in omega (arith, k.small)
+overflow_add-result-in-Sizes c = let k = at_ends (goal.at.overflow_add-result-in-Sizes c).In-Sizes in omega (arith, k.small)
 
 pub returns-in-Refused : goal.returns-in-Refused
 returns-in-Refused c =
@@ -37,5 +37,5 @@ returns-in-Refused c =
 pub returns-in-Sizes : goal.returns-in-Sizes
 unfolding addressing_of
 returns-in-Sizes c =
-    let k = at-ends (goal.at.returns-in-Sizes c).In-Sizes in
+    let k = at_ends (goal.at.returns-in-Sizes c).In-Sizes in
     rw (k.good, ne_eqb _ _ c.if-v-eq0.false, c.two_at.ensures, c.two_at-in-Sizes.ensures, k.source, k.destination)

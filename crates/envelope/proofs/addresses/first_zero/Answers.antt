@@ -1,3 +1,4 @@
+-- `addresses::first_zero` stops at the first zero: none stands before it, and at the end of the bytes there is none at all.
 use Rattle.std.proofs.Common.{arith}
 use Rattle.envelope.proofs.ZeroLaws.{zero_here, zero_later, zero_never}
 use Rattle.envelope.proofs.addresses.first_zero.Goals as goal

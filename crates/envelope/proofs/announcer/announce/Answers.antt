@@ -9,12 +9,12 @@ use Rattle.envelope.proofs.announcer.announce.Goals as goal
 use Rattle.envelope.proofs.announcer.announce.Goals.{After-judge_heading, Else-bytes-lt-HEADER_SIZE}
 
 -- long enough
-length-passed : (c : Else-bytes-lt-HEADER_SIZE) → ltb (length c.args.bytes.now) header_size ≡ false
-length-passed c = le-ltb _ _ c.if-bytes-lt-HEADER_SIZE.false
+length_passed : (c : Else-bytes-lt-HEADER_SIZE) → ltb (length c.args.bytes.now) header_size ≡ false
+length_passed c = le-ltb _ _ c.if-bytes-lt-HEADER_SIZE.false
 
 -- what the heading is judged to be, by the case that the answer is
-by-heading : (c : After-judge_heading) (r : Heading) → c.judge_heading.result ≡ r → heading c.args.bytes.now ≡ told_heading r
-by-heading c r e = sym c.judge_heading.ensures ∙ ap told_heading e
+by_heading : (c : After-judge_heading) (r : Heading) → c.judge_heading.result ≡ r → heading c.args.bytes.now ≡ told_heading r
+by_heading c r e = sym c.judge_heading.ensures ∙ ap told_heading e
 
 pub returns-then-bytes-lt-HEADER_SIZE : goal.returns-then-bytes-lt-HEADER_SIZE
 unfolding announcing
@@ -22,9 +22,9 @@ returns-then-bytes-lt-HEADER_SIZE c = rw (lt-ltb _ _ c.if-bytes-lt-HEADER_SIZE.t
 
 pub returns-in-Refused : goal.returns-in-Refused
 unfolding announcing
-returns-in-Refused c = rw (length-passed (goal.at.returns-in-Refused c).Else-bytes-lt-HEADER_SIZE, by-heading (goal.at.returns-in-Refused c).After-judge_heading _ c.in-Refused.is)
+returns-in-Refused c = rw (length_passed (goal.at.returns-in-Refused c).Else-bytes-lt-HEADER_SIZE, by_heading (goal.at.returns-in-Refused c).After-judge_heading _ c.in-Refused.is)
 
 pub returns-in-Passed : goal.returns-in-Passed
 unfolding announcing
 returns-in-Passed c =
-    rw (length-passed (goal.at.returns-in-Passed c).Else-bytes-lt-HEADER_SIZE, by-heading (goal.at.returns-in-Passed c).After-judge_heading _ c.in-Passed.is, c.announced_length.ensures)
+    rw (length_passed (goal.at.returns-in-Passed c).Else-bytes-lt-HEADER_SIZE, by_heading (goal.at.returns-in-Passed c).After-judge_heading _ c.in-Passed.is, c.announced_length.ensures)

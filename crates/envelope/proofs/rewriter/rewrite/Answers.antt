@@ -9,8 +9,8 @@ use Rattle.envelope.proofs.rewriter.rewrite.Goals as goal
 use Rattle.envelope.proofs.rewriter.rewrite.Goals.{In-Accepted}
 
 -- the message is accepted with the fields of this envelope
-read-it : (c : In-Accepted) → reading c.args.bytes.now ≡ accepted (told_envelope c.in-Accepted.envelope)
-read-it c = sym (ap told (sym c.in-Accepted.is) ∙ c.read.ensures)
+read_it : (c : In-Accepted) → reading c.args.bytes.now ≡ accepted (told_envelope c.in-Accepted.envelope)
+read_it c = sym (ap told (sym c.in-Accepted.is) ∙ c.read.ensures)
 
 pub returns-in-Refused : goal.returns-in-Refused
 returns-in-Refused c =
@@ -19,10 +19,10 @@ returns-in-Refused c =
 
 pub returns-in-Written : goal.returns-in-Written
 returns-in-Written c =
-    rewrote_it c.args.bytes.now _ c.args.buffer.now _ (λ k. (c.type_inv.bytes k).fits) (read-it (goal.at.returns-in-Written c).In-Accepted)
+    rewrote_it c.args.bytes.now _ c.args.buffer.now _ (λ k. (c.type_inv.bytes k).fits) (read_it (goal.at.returns-in-Written c).In-Accepted)
     c.write_again.ensures.1 _ (ap told_writing (sym c.in-Written.is) ∙ c.write_again.ensures.0)
 
 pub returns-in-Refused-write_again : goal.returns-in-Refused-write_again
 returns-in-Refused-write_again c =
-    no_room_lem c.args.bytes.now _ c.args.buffer.now _ (λ k. (c.type_inv.bytes k).fits) (read-it (goal.at.returns-in-Refused-write_again c).In-Accepted)
+    no_room_lem c.args.bytes.now _ c.args.buffer.now _ (λ k. (c.type_inv.bytes k).fits) (read_it (goal.at.returns-in-Refused-write_again c).In-Accepted)
     c.write_again.ensures.1 _ (ap told_writing (sym c.in-Refused-write_again.is) ∙ c.write_again.ensures.0)

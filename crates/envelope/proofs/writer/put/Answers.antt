@@ -1,3 +1,4 @@
+-- `writer::put`: one byte more of the part is in after each turn, and all of it at the end.
 use Rattle.std.proofs.Common.{◌≡◌, length, refl, add-one, arith, length-set}
 use lib.Seq.{paste-zero, paste-suc, take-length}
 use Rattle.envelope.specs.Helpers.{pasted}
