@@ -26,11 +26,11 @@ rests_on() {
 kit_of() { printf '%s/target/bin/%s.kit' "$root" "$1"; }
 
 # due PROGRAM: whether the program is missing, or a file of what it rests on is newer.
-# What a program reads and what it must print are no part of it, so a new case builds nothing.
+# What a program reads, what it must print and what the kit keeps are no part of it, so a new case builds nothing.
 due() {
     kit=$(kit_of "$1")
     [ -x "$root/target/bin/$1" ] && [ -s "$kit" ] || return 0
-    [ -n "$(cd "$root/crates" && find $(rests_on "$1") ../crates.txt -type f ! -name stdin ! -name stdout ! -name args ! -path '*/data/*' -newer "$kit" | head -n 1)" ]
+    [ -n "$(cd "$root/crates" && find $(rests_on "$1") ../crates.txt -name out -prune -o -type f ! -name stdin ! -name stdout ! -name args ! -name status ! -path '*/data/*' -newer "$kit" -print | head -n 1)" ]
 }
 
 # build PROGRAM: proves what it rests on and no more, as many crates at a time as there are processors, and says which is done.
@@ -53,6 +53,9 @@ build() {
         sleep 0.2
         finish_done
     done
+    mkdir -p "$root/target/bin"
+    cp "$root/crates/$1/out/$1" "$root/target/bin/$1.new"
+    mv "$root/target/bin/$1.new" "$root/target/bin/$1"
     rt version | tr -d '\n' >"$(kit_of "$1").new"
     touch -r "$building/began" "$(kit_of "$1").new"
     mv "$(kit_of "$1").new" "$(kit_of "$1")"
@@ -76,14 +79,17 @@ start_ready() {
     done
 }
 
-# What proves one crate, as a group of processes of its own. Two checks at a time look at the same crates below them, and one may find the
-# other's notes half written: so a check that fails is tried once more, by itself, and what is proved by then stays proved.
+# What proves one crate, as a group of processes of its own; a program is linked too, which `rt run` does, and runs it then, here on no input.
 prove='
 trap ": >\"$3/$2.failed\"" EXIT
-cd "$1" || exit
-check() { RT_JOBS=1 flock "$3" target/checks rt check "$1" >"$2/$1.log" 2>&1; }
-mkdir -p target
-if check "$2" "$3" --shared || check "$2" "$3" --exclusive; then trap - EXIT; : >"$3/$2.done"; fi'
+cd "$1/crates/$2" || exit
+rt check --jobs 1 >"$3/$2.log" 2>&1 || exit
+if [ -f src/main.rt ]; then
+    rt run </dev/null >"$3/$2.log" 2>&1
+    [ -f "out/$2.stamp" ] || exit
+fi
+trap - EXIT
+: >"$3/$2.done"'
 
 finish_done() {
     for crate in $running; do
@@ -110,24 +116,11 @@ stop_build() {
 }
 
 # can_launch: whether this machine can run a program of the repository, or a complaint.
-can_launch() {
-    case $(uname -m) in
-    x86_64) ;;
-    aarch64) command -v rt >/dev/null || die 'no rt on the PATH: the emulator comes with the Rattle kit' ;;
-    *) die "no way to run a program on $(uname -m)" ;;
-    esac
-}
+can_launch() { [ "$(uname -m)" = x86_64 ] || die "no way to run a program on $(uname -m)"; }
 
-# launch PROGRAM ARGUMENT..: the shell becomes the program. Programs are compiled for x86-64; on Arm the kit's emulator runs them.
+# launch PROGRAM ARGUMENT..: the shell becomes the program.
 launch() {
     built=$root/target/bin/$1
     shift
-    case $(uname -m) in
-    x86_64) exec "$built" "$@" ;;
-    aarch64)
-        rt=$(command -v rt)
-        kit=${RATTLE_HOME:-$(cd "$(dirname "$(readlink -f "$rt")")/.." && pwd -P)}
-        exec "$kit/on/aarch64/toolchain/bin/qemu-x86_64" "$kit/toolchain/lib/ld-linux-x86-64.so.2" --library-path "$kit/toolchain/lib" "$built" "$@"
-        ;;
-    esac
+    exec "$built" "$@"
 }

@@ -108,7 +108,7 @@ fn lay(page: &mut [u8], size: usize, words: &[u8]) -> usize {
     if page.len() - size < words.len() {
         return size;
     }
-    bytes::copy(words, &mut page[size..]);
+    page[size..size + words.len()].copy_from_slice(words);
     size + words.len()
 }
 

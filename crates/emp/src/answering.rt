@@ -38,6 +38,7 @@ pub struct Book {
 }
 
 pub fn answered(
+    rt: &(impl Print + Eprint),
     manner: Manner,
     ledger: &mut [u64; ROOM],
     book: Book,
@@ -47,17 +48,17 @@ pub fn answered(
     match answer {
         Answer::Sent => {
             let entered = with_submission(ledger, book, commid);
-            say(manner, gone_out(entered), SENT, commid, 0)
+            say(rt, manner, gone_out(entered), SENT, commid, 0)
         }
         Answer::Waits => {
             let entered = with_submission(ledger, book, commid);
-            say(manner, entered, WAITS, commid, 0)
+            say(rt, manner, entered, WAITS, commid, 0)
         }
-        Answer::Again => say(manner, gone_again(book), RESENT, commid, 0),
-        Answer::Settled(next) => end_flight(manner, ledger, book, next, commid, false),
-        Answer::Failed(next) => end_flight(manner, ledger, book, next, commid, true),
+        Answer::Again => say(rt, manner, gone_again(book), RESENT, commid, 0),
+        Answer::Settled(next) => end_flight(rt, manner, ledger, book, next, commid, false),
+        Answer::Failed(next) => end_flight(rt, manner, ledger, book, next, commid, true),
         Answer::Refused(refusal) => {
-            let told = refuse_by(manner, event_of(book, commid), refusal.numbers());
+            let told = refuse_by(rt, manner, event_of(book, commid), refusal.numbers());
             with_status(book, told)
         }
     }
@@ -74,8 +75,9 @@ fn event_of(book: Book, commid: u32) -> Subject {
 }
 
 // A line that is no event changes nothing.
-pub fn not_understood(manner: Manner, book: Book) -> Book {
+pub fn not_understood(rt: &(impl Print + Eprint), manner: Manner, book: Book) -> Book {
     let told = tell(
+        rt,
         manner,
         Status::Refused,
         rows::NOT_AN_EVENT,
@@ -106,6 +108,7 @@ fn gone_again(before: Book) -> Book {
 
 // The one in flight has ended, and the next one goes out, where one waits.
 fn end_flight(
+    rt: &(impl Print + Eprint),
     manner: Manner,
     ledger: &mut [u64; ROOM],
     before: Book,
@@ -120,8 +123,9 @@ fn end_flight(
     book.amiss = before.amiss || failed;
     let words = words_for(failed);
     match next {
-        Next::Nothing => say(manner, book, words, commid, 0),
+        Next::Nothing => say(rt, manner, book, words, commid, 0),
         Next::Goes(other) => say(
+            rt,
             manner,
             gone_out(book),
             wrapping_add_u64(words, 1),
@@ -138,10 +142,18 @@ fn words_for(failed: bool) -> u64 {
     ACKNOWLEDGED
 }
 
-fn say(manner: Manner, book: Book, words: u64, commid: u32, other: u32) -> Book {
+fn say(
+    rt: &(impl Print + Eprint),
+    manner: Manner,
+    book: Book,
+    words: u64,
+    commid: u32,
+    other: u32,
+) -> Book {
     let of = commid as u64;
     let next = other as u64;
     let told = tell(
+        rt,
         manner,
         Status::Done,
         rows::EVENT,

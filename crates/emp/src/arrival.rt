@@ -17,6 +17,7 @@ struct Wording {
 
 // The stream is as it was before this message.
 pub fn tell_message(
+    rt: &(impl Print + Eprint),
     manner: Manner,
     stream: Stream,
     header: Header,
@@ -26,6 +27,7 @@ pub fn tell_message(
     let follows = follows_in(stream, header.number);
     let beside = beside_in(stream, header, message, golden);
     tell(
+        rt,
         manner,
         Status::Done,
         rows::MESSAGE,

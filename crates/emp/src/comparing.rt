@@ -11,24 +11,36 @@ use wording::{Manner, Status, rows, tell};
 // What the list of places holds where no place was put: a place that no message has.
 const NOWHERE: u32 = 4_294_967_295;
 
-pub fn compare_record(manner: Manner, file: &[u8], record: usize, radio: &[u8]) -> Status {
+pub fn compare_record(
+    rt: &(impl Print + Eprint),
+    manner: Manner,
+    file: &[u8],
+    record: usize,
+    radio: &[u8],
+) -> Status {
     let mut places = [NOWHERE; Record::SIZE];
     let part = stored_message(file, record);
     match compare(file, record, radio, &mut places) {
         Comparison::Same => tell(
+            rt,
             manner,
             Status::Done,
             rows::SAME,
             &[radio.len() as u64],
             radio,
         ),
-        Comparison::Different(total) => differ(manner, part.slice(file), radio, total, &places),
-        Comparison::Refused(refusal) => refuse_comparing(manner, refusal, part.place),
+        Comparison::Different(total) => differ(rt, manner, part.slice(file), radio, total, &places),
+        Comparison::Refused(refusal) => refuse_comparing(rt, manner, refusal, part.place),
     }
 }
 
 // The radio's message is no part of the golden file; the record's begins there at a place.
-fn refuse_comparing(manner: Manner, refusal: Refusal, place: usize) -> Status {
+fn refuse_comparing(
+    rt: &(impl Print + Eprint),
+    manner: Manner,
+    refusal: Refusal,
+    place: usize,
+) -> Status {
     let of = Subject {
         what: ALONE,
         number: 0,
@@ -36,7 +48,7 @@ fn refuse_comparing(manner: Manner, refusal: Refusal, place: usize) -> Status {
         whole: whole_of(refusal),
         from: place as u64,
     };
-    refuse_by(manner, of, refusal.numbers())
+    refuse_by(rt, manner, of, refusal.numbers())
 }
 
 fn whole_of(refusal: Refusal) -> u64 {
@@ -47,6 +59,7 @@ fn whole_of(refusal: Refusal) -> u64 {
 }
 
 fn differ(
+    rt: &(impl Print + Eprint),
     manner: Manner,
     golden: &[u8],
     radio: &[u8],
@@ -54,7 +67,7 @@ fn differ(
     places: &[u32; Record::SIZE],
 ) -> Status {
     let marks = marks_of(layout_of(golden), golden.len(), layout_of(radio), places);
-    show_difference(manner, golden, radio, total, &marks)
+    show_difference(rt, manner, golden, radio, total, &marks)
 }
 
 // A mark for each place that is listed and shown.

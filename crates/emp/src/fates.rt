@@ -17,6 +17,7 @@ const ACKNOWLEDGED: u64 = 2;
 const FAILED: u64 = 3;
 
 pub fn tell_fates(
+    rt: &(impl Print + Eprint),
     manner: Manner,
     waiting: &[u32; Bench::PLACES],
     ledger: &[u64; ROOM],
@@ -27,17 +28,22 @@ pub fn tell_fates(
     if book.stopped {
         return Status::Complained;
     }
-    if list_fates(manner, ledger, book).is_complaint() {
+    if list_fates(rt, manner, ledger, book).is_complaint() {
         return Status::Complained;
     }
-    tell_totals(manner, book, bench.waiting(waiting), in_flight(bench))
+    tell_totals(rt, manner, book, bench.waiting(waiting), in_flight(bench))
 }
 
-fn list_fates(manner: Manner, ledger: &[u64; ROOM], book: Book) -> Status {
+fn list_fates(
+    rt: &(impl Print + Eprint),
+    manner: Manner,
+    ledger: &[u64; ROOM],
+    book: Book,
+) -> Status {
     let listed = listed_of(book);
     let mut k = 0;
     while k < listed {
-        if tell_fate(manner, ledger, book, k).is_complaint() {
+        if tell_fate(rt, manner, ledger, book, k).is_complaint() {
             return Status::Complained;
         }
         k += 1;
@@ -52,10 +58,17 @@ fn listed_of(book: Book) -> usize {
     book.accepted
 }
 
-fn tell_fate(manner: Manner, ledger: &[u64; ROOM], book: Book, k: usize) -> Status {
+fn tell_fate(
+    rt: &(impl Print + Eprint),
+    manner: Manner,
+    ledger: &[u64; ROOM],
+    book: Book,
+    k: usize,
+) -> Status {
     let of = entry_at(ledger, k);
     let times = times_of(of, book, k);
     tell(
+        rt,
         manner,
         Status::Done,
         rows::SUBMISSION,
@@ -91,8 +104,15 @@ fn times_of(of: Entry, book: Book, k: usize) -> u64 {
     of.times
 }
 
-fn tell_totals(manner: Manner, book: Book, waiting: usize, in_flight: u64) -> Status {
+fn tell_totals(
+    rt: &(impl Print + Eprint),
+    manner: Manner,
+    book: Book,
+    waiting: usize,
+    in_flight: u64,
+) -> Status {
     tell(
+        rt,
         manner,
         status_of(book),
         rows::TOTALS,

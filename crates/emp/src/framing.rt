@@ -24,21 +24,22 @@ struct Spot {
 }
 
 // A frame that is alone in its file is told with its message, in words.
-pub fn unwrap_file(manner: Manner, file: &[u8]) -> Status {
+pub fn unwrap_file(rt: &(impl Print + Eprint), manner: Manner, file: &[u8]) -> Status {
     if first(file) < file.len() {
-        return unwrap_capture(manner, file);
+        return unwrap_capture(rt, manner, file);
     }
     match manner {
-        Manner::Words => unwrap_frame(file),
-        _ => tell_frame(manner, Spot { frame: 1, place: 0 }, file),
+        Manner::Words => unwrap_frame(rt, file),
+        _ => tell_frame(rt, manner, Spot { frame: 1, place: 0 }, file),
     }
 }
 
-fn unwrap_frame(file: &[u8]) -> Status {
+fn unwrap_frame(rt: &(impl Print + Eprint), file: &[u8]) -> Status {
     match unwrap(file) {
-        Unwrapped::Data(data) => show_data(data, file),
+        Unwrapped::Data(data) => show_data(rt, data, file),
         Unwrapped::Acknowledged(acknowledgment) => {
             tell_acknowledgment(
+                rt,
                 Manner::Words,
                 Spot { frame: 0, place: 0 },
                 acknowledgment,
@@ -46,15 +47,16 @@ fn unwrap_frame(file: &[u8]) -> Status {
             )
         }
         Unwrapped::Refused(refusal) => {
-            refuse_frame(Manner::Words, Spot { frame: 1, place: 0 }, refusal)
+            refuse_frame(rt, Manner::Words, Spot { frame: 1, place: 0 }, refusal)
         }
     }
 }
 
-fn show_data(data: DataMessage, file: &[u8]) -> Status {
+fn show_data(rt: &(impl Print + Eprint), data: DataMessage, file: &[u8]) -> Status {
     let message = data.message;
     let envelope = data.envelope;
     let head = tell(
+        rt,
         Manner::Words,
         Status::Done,
         rows::FRAME,
@@ -64,16 +66,16 @@ fn show_data(data: DataMessage, file: &[u8]) -> Status {
     if head.is_complaint() {
         return head;
     }
-    show_message(Manner::Words, envelope, message.slice(file))
+    show_message(rt, Manner::Words, envelope, message.slice(file))
 }
 
 // A line for each frame, up to the first that is refused.
-fn unwrap_capture(manner: Manner, capture: &[u8]) -> Status {
+fn unwrap_capture(rt: &(impl Print + Eprint), manner: Manner, capture: &[u8]) -> Status {
     let mut frame = 1;
     let mut place = 0;
     while place < capture.len() {
         let end = place + first(&capture[place..]);
-        let status = tell_frame(manner, Spot { frame, place }, &capture[place..end]);
+        let status = tell_frame(rt, manner, Spot { frame, place }, &capture[place..end]);
         match status {
             Status::Done => {
                 frame += 1;
@@ -87,12 +89,13 @@ fn unwrap_capture(manner: Manner, capture: &[u8]) -> Status {
     Status::Done
 }
 
-fn tell_frame(manner: Manner, spot: Spot, bytes: &[u8]) -> Status {
+fn tell_frame(rt: &(impl Print + Eprint), manner: Manner, spot: Spot, bytes: &[u8]) -> Status {
     match unwrap(bytes) {
         Unwrapped::Data(data) => {
             let message = data.message;
             let envelope = data.envelope;
             tell_data(
+                rt,
                 manner,
                 spot,
                 data.commid,
@@ -102,13 +105,14 @@ fn tell_frame(manner: Manner, spot: Spot, bytes: &[u8]) -> Status {
             )
         }
         Unwrapped::Acknowledged(acknowledgment) => {
-            tell_acknowledgment(manner, spot, acknowledgment, bytes)
+            tell_acknowledgment(rt, manner, spot, acknowledgment, bytes)
         }
-        Unwrapped::Refused(refusal) => refuse_frame(manner, spot, refusal),
+        Unwrapped::Refused(refusal) => refuse_frame(rt, manner, spot, refusal),
     }
 }
 
 fn tell_data(
+    rt: &(impl Print + Eprint),
     manner: Manner,
     spot: Spot,
     commid: u32,
@@ -117,6 +121,7 @@ fn tell_data(
     bytes: &[u8],
 ) -> Status {
     tell(
+        rt,
         manner,
         Status::Done,
         rows::DATA,
@@ -133,12 +138,14 @@ fn tell_data(
 }
 
 fn tell_acknowledgment(
+    rt: &(impl Print + Eprint),
     manner: Manner,
     spot: Spot,
     acknowledgment: Acknowledgment,
     bytes: &[u8],
 ) -> Status {
     tell(
+        rt,
         manner,
         Status::Done,
         rows::ACKNOWLEDGMENT,
@@ -154,7 +161,12 @@ fn tell_acknowledgment(
 }
 
 // The message begins behind the frame's header.
-fn refuse_frame(manner: Manner, spot: Spot, refusal: Refusal) -> Status {
+fn refuse_frame(
+    rt: &(impl Print + Eprint),
+    manner: Manner,
+    spot: Spot,
+    refusal: Refusal,
+) -> Status {
     let place = spot.place as u64;
     let of = Subject {
         what: FRAME,
@@ -163,27 +175,42 @@ fn refuse_frame(manner: Manner, spot: Spot, refusal: Refusal) -> Status {
         whole: OF_FILE,
         from: wrapping_add_u64(place, BODY_PLACE as u64),
     };
-    refuse_by(manner, of, refusal.numbers())
+    refuse_by(rt, manner, of, refusal.numbers())
 }
 
-pub fn wrap_message(manner: Manner, commid: u32, message: &[u8]) -> Status {
+pub fn wrap_message(
+    rt: &(impl Print + Eprint),
+    manner: Manner,
+    commid: u32,
+    message: &[u8],
+) -> Status {
     let mut buffer = [0u8; ROOM];
     let wrapped = wrap(message, commid, &mut buffer);
-    put_frame(manner, wrapped, &buffer)
+    put_frame(rt, manner, wrapped, &buffer)
 }
 
-pub fn acknowledge_commid(manner: Manner, commid: u32, acknowledged: u32) -> Status {
+pub fn acknowledge_commid(
+    rt: &(impl Print + Eprint),
+    manner: Manner,
+    commid: u32,
+    acknowledged: u32,
+) -> Status {
     let mut buffer = [0u8; ACKNOWLEDGMENT_SIZE];
     let wrapped = acknowledge(commid, acknowledged, &mut buffer);
-    put_frame(manner, wrapped, &buffer)
+    put_frame(rt, manner, wrapped, &buffer)
 }
 
-fn put_frame(manner: Manner, wrapped: Wrapped, buffer: &[u8]) -> Status {
+fn put_frame(
+    rt: &(impl Print + Eprint),
+    manner: Manner,
+    wrapped: Wrapped,
+    buffer: &[u8],
+) -> Status {
     match wrapped {
         Wrapped::Written(size) => {
             let whole = Part { place: 0, size };
-            put(whole.slice(buffer), Status::Done)
+            put(rt, whole.slice(buffer), Status::Done)
         }
-        Wrapped::Refused(refusal) => refuse_message(manner, TO_BE_MADE, refusal.numbers()),
+        Wrapped::Refused(refusal) => refuse_message(rt, manner, TO_BE_MADE, refusal.numbers()),
     }
 }

@@ -18,23 +18,30 @@ pub enum NamedRetired {
 }
 
 // Every record, a line each, good or bad.
-pub fn list_file(manner: Manner, file: &[u8]) -> Status {
+pub fn list_file(rt: &(impl Print + Eprint), manner: Manner, file: &[u8]) -> Status {
     match count(file) {
         Counting::Count(count) => {
-            match tell(manner, Status::Done, rows::COUNTED, &[count as u64], file) {
-                Status::Done => list_records(manner, file, count),
+            match tell(
+                rt,
+                manner,
+                Status::Done,
+                rows::COUNTED,
+                &[count as u64],
+                file,
+            ) {
+                Status::Done => list_records(rt, manner, file, count),
                 _ => Status::Complained,
             }
         }
-        Counting::Refused(refusal) => refuse_record(manner, file, 0, refusal),
+        Counting::Refused(refusal) => refuse_record(rt, manner, file, 0, refusal),
     }
 }
 
-fn list_records(manner: Manner, file: &[u8], records: usize) -> Status {
+fn list_records(rt: &(impl Print + Eprint), manner: Manner, file: &[u8], records: usize) -> Status {
     let mut status = Status::Done;
     let mut n = 0;
     while n < records {
-        match list_record(manner, file, n) {
+        match list_record(rt, manner, file, n) {
             Status::Complained => {
                 return Status::Complained;
             }
@@ -48,7 +55,7 @@ fn list_records(manner: Manner, file: &[u8], records: usize) -> Status {
     status
 }
 
-fn list_record(manner: Manner, file: &[u8], n: usize) -> Status {
+fn list_record(rt: &(impl Print + Eprint), manner: Manner, file: &[u8], n: usize) -> Status {
     match entry_at(file, n) {
         Entry::Good {
             message_type,
@@ -56,6 +63,7 @@ fn list_record(manner: Manner, file: &[u8], n: usize) -> Status {
             size,
             retired,
         } => tell(
+            rt,
             manner,
             Status::Done,
             rows::LISTED,
@@ -68,57 +76,71 @@ fn list_record(manner: Manner, file: &[u8], n: usize) -> Status {
             ],
             file,
         ),
-        Entry::Refused(refusal) => refuse_record(manner, file, n, refusal),
+        Entry::Refused(refusal) => refuse_record(rt, manner, file, n, refusal),
     }
 }
 
-pub fn check_file(manner: Manner, file: &[u8]) -> Status {
+pub fn check_file(rt: &(impl Print + Eprint), manner: Manner, file: &[u8]) -> Status {
     match check(file) {
-        Checking::Count(count) => tell_checked(manner, file, count),
-        Checking::Refused { record, refusal } => refuse_checked(manner, file, record, refusal),
+        Checking::Count(count) => tell_checked(rt, manner, file, count),
+        Checking::Refused { record, refusal } => refuse_checked(rt, manner, file, record, refusal),
     }
 }
 
 // The count, how many are retired, and each of those: no sum guards the mark.
-fn tell_checked(manner: Manner, file: &[u8], records: usize) -> Status {
+fn tell_checked(rt: &(impl Print + Eprint), manner: Manner, file: &[u8], records: usize) -> Status {
     let retired = match count_retired(file) {
         Counting::Count(retired) => retired,
         Counting::Refused(_) => 0,
     };
     let numbers = [records as u64, retired as u64];
-    match tell(manner, Status::Done, rows::CHECKED, &numbers, file) {
-        Status::Done => tell_rest(manner, file, records),
+    match tell(rt, manner, Status::Done, rows::CHECKED, &numbers, file) {
+        Status::Done => tell_rest(rt, manner, file, records),
         _ => Status::Complained,
     }
 }
 
-fn tell_rest(manner: Manner, file: &[u8], records: usize) -> Status {
-    match tell_retired(manner, file, records) {
-        Status::Done => tell_order(manner, file),
+fn tell_rest(rt: &(impl Print + Eprint), manner: Manner, file: &[u8], records: usize) -> Status {
+    match tell_retired(rt, manner, file, records) {
+        Status::Done => tell_order(rt, manner, file),
         _ => Status::Complained,
     }
 }
 
-fn tell_retired(manner: Manner, file: &[u8], records: usize) -> Status {
+fn tell_retired(rt: &(impl Print + Eprint), manner: Manner, file: &[u8], records: usize) -> Status {
     let mut n = 0;
     while n < records {
         if is_retired(entry_at(file, n)) {
-            let told = tell(manner, Status::Done, rows::ONE_RETIRED, &[n as u64], file);
+            let told = tell(
+                rt,
+                manner,
+                Status::Done,
+                rows::ONE_RETIRED,
+                &[n as u64],
+                file,
+            );
             if told.is_complaint() {
                 return Status::Complained;
             }
         }
         n += 1;
     }
-    tell(manner, Status::Done, rows::LINE_END, &[], file)
+    tell(rt, manner, Status::Done, rows::LINE_END, &[], file)
 }
 
 // The records are good, so they stand in order or break it.
-fn tell_order(manner: Manner, file: &[u8]) -> Status {
+fn tell_order(rt: &(impl Print + Eprint), manner: Manner, file: &[u8]) -> Status {
     match ascending(file) {
-        Ordering::Ascends => tell(manner, Status::Done, rows::ORDER, &[0, 0], file),
+        Ordering::Ascends => tell(rt, manner, Status::Done, rows::ORDER, &[0, 0], file),
         Ordering::Breaks(record) => {
-            tell(manner, Status::Done, rows::ORDER, &[1, record as u64], file)
+            tell(
+                rt,
+                manner,
+                Status::Done,
+                rows::ORDER,
+                &[1, record as u64],
+                file,
+            )
         }
         Ordering::Refused {
             record: _,
@@ -139,15 +161,27 @@ fn is_retired(entry: Entry) -> bool {
     }
 }
 
-fn refuse_checked(manner: Manner, file: &[u8], record: usize, refusal: Refusal) -> Status {
+fn refuse_checked(
+    rt: &(impl Print + Eprint),
+    manner: Manner,
+    file: &[u8],
+    record: usize,
+    refusal: Refusal,
+) -> Status {
     match refusal {
-        Refusal::NameTaken => refuse_taken(manner, file, record, refusal),
-        _ => refuse_record(manner, file, record, refusal),
+        Refusal::NameTaken => refuse_taken(rt, manner, file, record, refusal),
+        _ => refuse_record(rt, manner, file, record, refusal),
     }
 }
 
 // With the record's name, by which find gives the earlier one: golden/Theorems `RefusesTheLater`, `EarlierIsFound`, so the other arms are not met.
-fn refuse_taken(manner: Manner, file: &[u8], record: usize, refusal: Refusal) -> Status {
+fn refuse_taken(
+    rt: &(impl Print + Eprint),
+    manner: Manner,
+    file: &[u8],
+    record: usize,
+    refusal: Refusal,
+) -> Status {
     match entry_at(file, record) {
         Entry::Good {
             message_type,
@@ -159,18 +193,26 @@ fn refuse_taken(manner: Manner, file: &[u8], record: usize, refusal: Refusal) ->
                 message_type,
                 number,
             };
-            tell_taken(manner, file, record, refusal, name)
+            tell_taken(rt, manner, file, record, refusal, name)
         }
-        Entry::Refused(_) => refuse_record(manner, file, record, refusal),
+        Entry::Refused(_) => refuse_record(rt, manner, file, record, refusal),
     }
 }
 
-fn tell_taken(manner: Manner, file: &[u8], record: usize, refusal: Refusal, name: Name) -> Status {
+fn tell_taken(
+    rt: &(impl Print + Eprint),
+    manner: Manner,
+    file: &[u8],
+    record: usize,
+    refusal: Refusal,
+    name: Name,
+) -> Status {
     match find(file, name) {
         Finding::Found {
             record: earlier,
             opened: _,
         } => tell(
+            rt,
             manner,
             Status::Refused,
             rows::TAKEN,
@@ -183,46 +225,68 @@ fn tell_taken(manner: Manner, file: &[u8], record: usize, refusal: Refusal, name
             ],
             file,
         ),
-        _ => refuse_record(manner, file, record, refusal),
+        _ => refuse_record(rt, manner, file, record, refusal),
     }
 }
 
-pub fn find_record(manner: Manner, file: &[u8], name: Name) -> Status {
-    tell_finding(manner, file, name, find(file, name))
+pub fn find_record(rt: &(impl Print + Eprint), manner: Manner, file: &[u8], name: Name) -> Status {
+    tell_finding(rt, manner, file, name, find(file, name))
 }
 
-pub fn find_by_halving_in(manner: Manner, file: &[u8], name: Name) -> Status {
-    tell_halving(manner, file, find_by_halving(file, name))
+pub fn find_by_halving_in(
+    rt: &(impl Print + Eprint),
+    manner: Manner,
+    file: &[u8],
+    name: Name,
+) -> Status {
+    tell_halving(rt, manner, file, find_by_halving(file, name))
 }
 
-fn tell_halving(manner: Manner, file: &[u8], finding: Finding) -> Status {
+fn tell_halving(
+    rt: &(impl Print + Eprint),
+    manner: Manner,
+    file: &[u8],
+    finding: Finding,
+) -> Status {
     match finding {
         Finding::Found { record, opened } => tell(
+            rt,
             manner,
             Status::Done,
             rows::FOUND,
             &[record as u64, opened as u64],
             file,
         ),
-        Finding::Refused { refusal, opened } => refuse_halving(manner, file, refusal, opened),
+        Finding::Refused { refusal, opened } => refuse_halving(rt, manner, file, refusal, opened),
     }
 }
 
 // 27 says nothing about the records that were not opened.
-fn refuse_halving(manner: Manner, file: &[u8], refusal: Refusal, opened: usize) -> Status {
+fn refuse_halving(
+    rt: &(impl Print + Eprint),
+    manner: Manner,
+    file: &[u8],
+    refusal: Refusal,
+    opened: usize,
+) -> Status {
     let opened = opened as u64;
     match refusal {
         Refusal::NotFound => {
             let number = refusal.numbers().number as u64;
             let numbers = [number, opened, opened, number];
-            tell(manner, Status::Refused, rows::MISSED, &numbers, file)
+            tell(rt, manner, Status::Refused, rows::MISSED, &numbers, file)
         }
-        _ => refuse_opened(manner, refusal, opened),
+        _ => refuse_opened(rt, manner, refusal, opened),
     }
 }
 
 // A bad record has no number in this answer: one of those opened is bad.
-fn refuse_opened(manner: Manner, refusal: Refusal, opened: u64) -> Status {
+fn refuse_opened(
+    rt: &(impl Print + Eprint),
+    manner: Manner,
+    refusal: Refusal,
+    opened: u64,
+) -> Status {
     let of = Subject {
         what: SEARCHED_FILE,
         number: 0,
@@ -230,12 +294,19 @@ fn refuse_opened(manner: Manner, refusal: Refusal, opened: u64) -> Status {
         whole: OF_A_RECORD,
         from: 0,
     };
-    refuse_by(manner, of, refusal.numbers())
+    refuse_by(rt, manner, of, refusal.numbers())
 }
 
-fn tell_finding(manner: Manner, file: &[u8], name: Name, finding: Finding) -> Status {
+fn tell_finding(
+    rt: &(impl Print + Eprint),
+    manner: Manner,
+    file: &[u8],
+    name: Name,
+    finding: Finding,
+) -> Status {
     match finding {
         Finding::Found { record, opened } => tell(
+            rt,
             manner,
             Status::Done,
             rows::FOUND,
@@ -245,19 +316,26 @@ fn tell_finding(manner: Manner, file: &[u8], name: Name, finding: Finding) -> St
         Finding::Refused { refusal, opened } => {
             let what = what_of(refusal, SEARCHED_FILE, SEARCHED_RECORD);
             let of = subject_in(file, what, last_of(opened), opened as u64);
-            match refuse_by(manner, of, refusal.numbers()) {
+            match refuse_by(rt, manner, of, refusal.numbers()) {
                 Status::Complained => Status::Complained,
-                _ => tell_named_retired(manner, file, name, refusal),
+                _ => tell_named_retired(rt, manner, file, name, refusal),
             }
         }
     }
 }
 
 // With 27 the first record of that name that is retired, if there is one.
-fn tell_named_retired(manner: Manner, file: &[u8], name: Name, refusal: Refusal) -> Status {
+fn tell_named_retired(
+    rt: &(impl Print + Eprint),
+    manner: Manner,
+    file: &[u8],
+    name: Name,
+    refusal: Refusal,
+) -> Status {
     match refusal {
         Refusal::NotFound => match retired_named(file, name) {
             NamedRetired::At(record) => tell(
+                rt,
                 manner,
                 Status::Refused,
                 rows::NAMED_RETIRED,
@@ -309,10 +387,16 @@ fn last_of(opened: usize) -> usize {
     opened - 1
 }
 
-fn refuse_record(manner: Manner, file: &[u8], record: usize, refusal: Refusal) -> Status {
+fn refuse_record(
+    rt: &(impl Print + Eprint),
+    manner: Manner,
+    file: &[u8],
+    record: usize,
+    refusal: Refusal,
+) -> Status {
     let what = what_of(refusal, GOLDEN_FILE, RECORD);
     let of = subject_in(file, what, record, 0);
-    refuse_by(manner, of, refusal.numbers())
+    refuse_by(rt, manner, of, refusal.numbers())
 }
 
 // Whether the refusal is the whole file's or a record's own.

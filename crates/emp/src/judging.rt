@@ -27,44 +27,56 @@ struct Sizes {
     end: usize,
 }
 
-pub fn judge_message(manner: Manner, message: &[u8]) -> Status {
+pub fn judge_message(rt: &(impl Print + Eprint), manner: Manner, message: &[u8]) -> Status {
     let judging = judge(message);
-    if tell_rules(manner, message, judging).is_complaint() {
+    if tell_rules(rt, manner, message, judging).is_complaint() {
         return Status::Complained;
     }
     match read(message) {
         Reading::Accepted(_) => tell(
+            rt,
             manner,
             Status::Done,
             rows::ACCEPTED,
             &[message.len() as u64],
             message,
         ),
-        Reading::Refused(refusal) => refuse_reading(manner, refusal),
+        Reading::Refused(refusal) => refuse_reading(rt, manner, refusal),
     }
 }
 
-fn tell_rules(manner: Manner, message: &[u8], judging: Judging) -> Status {
+fn tell_rules(
+    rt: &(impl Print + Eprint),
+    manner: Manner,
+    message: &[u8],
+    judging: Judging,
+) -> Status {
     let sizes = sizes_in(message);
-    if tell_least_size(manner, message, judging).is_complaint() {
+    if tell_least_size(rt, manner, message, judging).is_complaint() {
         return Status::Complained;
     }
-    if tell_bytes(manner, message, judging).is_complaint() {
+    if tell_bytes(rt, manner, message, judging).is_complaint() {
         return Status::Complained;
     }
-    if tell_length(manner, message, judging, sizes).is_complaint() {
+    if tell_length(rt, manner, message, judging, sizes).is_complaint() {
         return Status::Complained;
     }
-    if tell_addresses(manner, message, judging, sizes).is_complaint() {
+    if tell_addresses(rt, manner, message, judging, sizes).is_complaint() {
         return Status::Complained;
     }
-    tell_integrity(manner, message, judging, sizes)
+    tell_integrity(rt, manner, message, judging, sizes)
 }
 
-fn tell_least_size(manner: Manner, message: &[u8], judging: Judging) -> Status {
+fn tell_least_size(
+    rt: &(impl Print + Eprint),
+    manner: Manner,
+    message: &[u8],
+    judging: Judging,
+) -> Status {
     let least = judging.least;
     let least = ruling_of(least);
     tell(
+        rt,
         manner,
         Status::Done,
         rows::RULE_OF_LEAST_SIZE,
@@ -74,7 +86,12 @@ fn tell_least_size(manner: Manner, message: &[u8], judging: Judging) -> Status {
 }
 
 // Rules 2, 3 and 4, each about one byte.
-fn tell_bytes(manner: Manner, message: &[u8], judging: Judging) -> Status {
+fn tell_bytes(
+    rt: &(impl Print + Eprint),
+    manner: Manner,
+    message: &[u8],
+    judging: Judging,
+) -> Status {
     let version = judging.version;
     let version = ruling_of(version);
     let flags = judging.flags;
@@ -84,6 +101,7 @@ fn tell_bytes(manner: Manner, message: &[u8], judging: Judging) -> Status {
     let length = message.len() as u64;
     let held = byte_at(message, Envelope::FLAGS_PLACE);
     tell(
+        rt,
         manner,
         Status::Done,
         rows::RULES_OF_ONE_BYTE,
@@ -113,11 +131,18 @@ fn tell_bytes(manner: Manner, message: &[u8], judging: Judging) -> Status {
 }
 
 // Rule 5 goes by the sizes that the header states.
-fn tell_length(manner: Manner, message: &[u8], judging: Judging, sizes: Sizes) -> Status {
+fn tell_length(
+    rt: &(impl Print + Eprint),
+    manner: Manner,
+    message: &[u8],
+    judging: Judging,
+    sizes: Sizes,
+) -> Status {
     let length = judging.length;
     let length = ruling_of(length);
     let has = message.len() as u64;
     tell(
+        rt,
         manner,
         Status::Done,
         rows::RULE_OF_LENGTH,
@@ -137,7 +162,13 @@ fn tell_length(manner: Manner, message: &[u8], judging: Judging, sizes: Sizes) -
 }
 
 // An address is counted with its closing zero.
-fn tell_addresses(manner: Manner, message: &[u8], judging: Judging, sizes: Sizes) -> Status {
+fn tell_addresses(
+    rt: &(impl Print + Eprint),
+    manner: Manner,
+    message: &[u8],
+    judging: Judging,
+    sizes: Sizes,
+) -> Status {
     let addresses = judging.addresses;
     let addresses = ruling_of(addresses);
     let needed = needed_for_addresses(sizes.variable);
@@ -154,6 +185,7 @@ fn tell_addresses(manner: Manner, message: &[u8], judging: Judging, sizes: Sizes
     );
     let source = source as u64;
     tell(
+        rt,
         manner,
         Status::Done,
         rows::RULE_OF_ADDRESSES,
@@ -203,7 +235,13 @@ fn not_judged(too_few: bool) -> u64 {
     4
 }
 
-fn tell_integrity(manner: Manner, message: &[u8], judging: Judging, sizes: Sizes) -> Status {
+fn tell_integrity(
+    rt: &(impl Print + Eprint),
+    manner: Manner,
+    message: &[u8],
+    judging: Judging,
+    sizes: Sizes,
+) -> Status {
     let integrity = judging.integrity;
     let integrity = ruling_of(integrity);
     let kind = kind(byte_at(message, Envelope::FLAGS_PLACE));
@@ -217,6 +255,7 @@ fn tell_integrity(manner: Manner, message: &[u8], judging: Judging, sizes: Sizes
         byte_at(field, 3),
     );
     tell(
+        rt,
         manner,
         Status::Done,
         rows::RULE_OF_INTEGRITY,

@@ -28,14 +28,21 @@ struct Seconds {
     before: bool,
 }
 
-pub fn late_message(manner: Manner, message: &[u8], entry: u64, clock: u64) -> Status {
+pub fn late_message(
+    rt: &(impl Print + Eprint),
+    manner: Manner,
+    message: &[u8],
+    entry: u64,
+    clock: u64,
+) -> Status {
     match read(message) {
-        Reading::Accepted(accepted) => tell_lateness(manner, accepted, entry, clock, message),
-        Reading::Refused(refusal) => refuse_reading(manner, refusal),
+        Reading::Accepted(accepted) => tell_lateness(rt, manner, accepted, entry, clock, message),
+        Reading::Refused(refusal) => refuse_reading(rt, manner, refusal),
     }
 }
 
 fn tell_lateness(
+    rt: &(impl Print + Eprint),
     manner: Manner,
     accepted: Envelope,
     entry: u64,
@@ -47,14 +54,15 @@ fn tell_lateness(
     match judge(accepted, entry, clock) {
         Lateness::InTime => {
             let left = left_of(entry, ttl, clock);
-            tell_seconds(manner, Status::Done, left, message)
+            tell_seconds(rt, manner, Status::Done, left, message)
         }
         Lateness::Late => {
             let past = wrapping_sub_u64(wrapping_sub_u64(clock, entry), ttl);
-            tell_seconds(manner, Status::Refused, few(LATE, past, false), message)
+            tell_seconds(rt, manner, Status::Refused, few(LATE, past, false), message)
         }
         Lateness::NoClock => {
             tell_seconds(
+                rt,
                 manner,
                 Status::Refused,
                 few(reason_of(addressing), 0, false),
@@ -115,9 +123,16 @@ fn many(before: u64, ttl: u64) -> Seconds {
     }
 }
 
-fn tell_seconds(manner: Manner, status: Status, told: Seconds, message: &[u8]) -> Status {
+fn tell_seconds(
+    rt: &(impl Print + Eprint),
+    manner: Manner,
+    status: Status,
+    told: Seconds,
+    message: &[u8],
+) -> Status {
     let seconds = told.seconds;
     tell(
+        rt,
         manner,
         status,
         rows::LATENESS,

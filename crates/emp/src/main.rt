@@ -21,6 +21,9 @@ mod watching;
 use console::table::{piece, row};
 use envelope::Part;
 use golden::Name;
+use std::io::Input;
+use std::process::ExitCode;
+use std::rt::{Env, Files};
 use wording::arguments::{Given, NAMES, given_by};
 use wording::commands::{Asked, Command, command_of, manner_of_help, row_of, unknown_option};
 use wording::files::{File, MOST, ROOM, file_at};
@@ -28,8 +31,9 @@ use wording::telling::complain;
 use wording::{Manner, Status, commands, helping, rows, status};
 
 // One row for each command, in the order of the constants of `commands`: its form, what it does, and what it tells plainly.
-fn main() {
+fn main(rt: HostRuntime) -> ExitCode {
     status::tell(run(
+        &rt,
         b"list GOLDEN\tevery record: its type, number and length and whether it is retired, or its refusal\tgood RECORD TYPE NUMBER LENGTH, and the word retired behind these where it is, or refused RECORD REFUSAL READING PLACE FILE-PLACE
 check GOLDEN\tthe count of records, which are retired and whether they stand in ascending order of type, then number, or the first that is bad or is live and has the type and number of an earlier live one\tgood COUNT RETIRED, which is how many are retired, and then the number of each, with a second line, ascending or breaks RECORD; or else refused RECORD REFUSAL READING PLACE FILE-PLACE, and with 26 the EARLIER record behind these
 find GOLDEN TYPE NUMBER\tthe first live record of that type and number, and how many were opened; with --halving the record that at most eight openings lead to\tfound RECORD OPENED, or refused RECORD OPENED REFUSAL READING PLACE FILE-PLACE, and with 27, but not by halving, retired RECORD where a retired one has them; by halving RECORD and FILE-PLACE of a refusal are -
@@ -48,86 +52,106 @@ send RESENDS\twhat becomes of each message sent, with so many resends each, 0 to
 help [COMMAND]\tthis, or what a command does\tthe form of each command
 ",
         b"--plain\n-q\n--help\n-h\n--version\n--\n--halving\n",
-    ));
+    ))
 }
 
-fn run(commands: &[u8], options: &[u8]) -> Status {
+fn run(
+    rt: &(impl Env + Files + Input + Print + Eprint),
+    commands: &[u8],
+    options: &[u8],
+) -> Status {
     let mut names = [0usize; NAMES];
-    let given = given_by(options, &mut names);
+    let given = given_by(rt, options, &mut names);
     if given.too_long {
-        return complain(rows::LONG_WORD, options, options);
+        return complain(rt, rows::LONG_WORD, options, options);
     }
     if given.unknown != 0 {
-        return unknown_option(options, given.unknown);
+        return unknown_option(rt, options, given.unknown);
     }
     if given.version {
-        return helping::version(manner_of_help(given));
+        return helping::version(rt, manner_of_help(given));
     }
     if given.names == 0 {
-        return without_names(commands, given);
+        return without_names(rt, commands, given);
     }
-    let found = row_of(commands, names[0]);
-    run_row(commands, found, given, &names)
+    let found = row_of(rt, commands, names[0]);
+    run_row(rt, commands, found, given, &names)
 }
 
-fn without_names(commands: &[u8], given: Given) -> Status {
+fn without_names(rt: &(impl Print + Eprint), commands: &[u8], given: Given) -> Status {
     if given.help {
-        return helping::help(manner_of_help(given), commands);
+        return helping::help(rt, manner_of_help(given), commands);
     }
-    complain(rows::NO_COMMAND, commands, commands)
+    complain(rt, rows::NO_COMMAND, commands, commands)
 }
 
-fn run_row(commands: &[u8], found: usize, given: Given, names: &[usize; NAMES]) -> Status {
+fn run_row(
+    rt: &(impl Env + Files + Input + Print + Eprint),
+    commands: &[u8],
+    found: usize,
+    given: Given,
+    names: &[usize; NAMES],
+) -> Status {
     let line = row(commands, found);
     if line.len() == 0 {
         return Status::Complained;
     }
     if given.help {
-        return helping::help_for(manner_of_help(given), line, true);
+        return helping::help_for(rt, manner_of_help(given), line, true);
     }
-    match command_of(piece(line, commands::TAB, 0), found, given, names) {
-        Asked::Command(command) => answer(command, commands),
+    match command_of(rt, piece(line, commands::TAB, 0), found, given, names) {
+        Asked::Command(command) => answer(rt, command, commands),
         Asked::Wrong => Status::Complained,
     }
 }
 
-fn answer(command: Command, commands: &[u8]) -> Status {
+fn answer(
+    rt: &(impl Env + Files + Input + Print + Eprint),
+    command: Command,
+    commands: &[u8],
+) -> Status {
     let manner = command.manner;
     let row = command.row;
     match row {
-        commands::HELP => help_on(manner, commands, command.file),
+        commands::HELP => help_on(rt, manner, commands, command.file),
         commands::ACKNOWLEDGE => framing::acknowledge_commid(
+            rt,
             manner,
             narrow(command.number),
             narrow(command.further),
         ),
-        commands::SEND => sending::send(manner, command.number),
-        _ => on_file(command),
+        commands::SEND => sending::send(rt, manner, command.number),
+        _ => on_file(rt, command),
     }
 }
 
-fn help_on(manner: Manner, commands: &[u8], argument: usize) -> Status {
+fn help_on(
+    rt: &(impl Env + Print + Eprint),
+    manner: Manner,
+    commands: &[u8],
+    argument: usize,
+) -> Status {
     if argument == 0 {
-        return helping::help(manner, commands);
+        return helping::help(rt, manner, commands);
     }
-    let line = row(commands, row_of(commands, argument));
+    let line = row(commands, row_of(rt, commands, argument));
     if line.len() == 0 {
         return Status::Complained;
     }
-    helping::help_for(manner, line, true)
+    helping::help_for(rt, manner, line, true)
 }
 
 // Any other command names a file, but for watch, which may.
-fn on_file(command: Command) -> Status {
+fn on_file(rt: &(impl Env + Files + Input + Print + Eprint), command: Command) -> Status {
     let manner = command.manner;
     if command.file == 0 {
-        return watching::watch_alone(manner);
+        return watching::watch_alone(rt, manner);
     }
     let mut buffer = [0u8; ROOM];
-    match file_at(command.file, most_for(command.row), &mut buffer) {
+    match file_at(rt, command.file, most_for(command.row), &mut buffer) {
         File::Size(size) => {
             let whole = Part { place: 0, size };
-            answer_on(command, whole.slice(&buffer))
+            answer_on(rt, command, whole.slice(&buffer))
         }
         File::Untaken => Status::Complained,
     }
@@ -146,33 +170,39 @@ fn most_for(row: usize) -> usize {
     }
 }
 
-fn answer_on(command: Command, file: &[u8]) -> Status {
+fn answer_on(
+    rt: &(impl Env + Files + Input + Print + Eprint),
+    command: Command,
+    file: &[u8],
+) -> Status {
     let manner = command.manner;
     let row = command.row;
     match row {
-        commands::LIST => golden_files::list_file(manner, file),
-        commands::CHECK => golden_files::check_file(manner, file),
-        commands::FIND => find_in(command, file),
-        commands::COMPARE => compare_with(command, file),
-        commands::READ => reading::read_message(manner, file),
-        commands::JUDGE => judging::judge_message(manner, file),
-        commands::LATE => { lateness::late_message(manner, file, command.number, command.further) }
-        commands::SUM => making::sum_file(manner, file),
-        commands::MAKE => making::make_record(manner, file),
-        commands::RETIRE => making::retire_record(manner, file, command.number as usize),
-        commands::UNWRAP => framing::unwrap_file(manner, file),
-        commands::WRAP => framing::wrap_message(manner, narrow(command.number), file),
-        _ => watching::watch_beside(manner, file),
+        commands::LIST => golden_files::list_file(rt, manner, file),
+        commands::CHECK => golden_files::check_file(rt, manner, file),
+        commands::FIND => find_in(rt, command, file),
+        commands::COMPARE => compare_with(rt, command, file),
+        commands::READ => reading::read_message(rt, manner, file),
+        commands::JUDGE => judging::judge_message(rt, manner, file),
+        commands::LATE => {
+            lateness::late_message(rt, manner, file, command.number, command.further)
+        }
+        commands::SUM => making::sum_file(rt, manner, file),
+        commands::MAKE => making::make_record(rt, manner, file),
+        commands::RETIRE => making::retire_record(rt, manner, file, command.number as usize),
+        commands::UNWRAP => framing::unwrap_file(rt, manner, file),
+        commands::WRAP => framing::wrap_message(rt, manner, narrow(command.number), file),
+        _ => watching::watch_beside(rt, manner, file),
     }
 }
 
-fn find_in(command: Command, file: &[u8]) -> Status {
+fn find_in(rt: &(impl Print + Eprint), command: Command, file: &[u8]) -> Status {
     let manner = command.manner;
     let name = name_of(command);
     if command.halving {
-        return golden_files::find_by_halving_in(manner, file, name);
+        return golden_files::find_by_halving_in(rt, manner, file, name);
     }
-    golden_files::find_record(manner, file, name)
+    golden_files::find_record(rt, manner, file, name)
 }
 
 fn name_of(command: Command) -> Name {
@@ -187,13 +217,23 @@ fn narrow(n: u64) -> u32 {
     (n % 4_294_967_296) as u32
 }
 
-fn compare_with(command: Command, file: &[u8]) -> Status {
+fn compare_with(
+    rt: &(impl Env + Files + Input + Print + Eprint),
+    command: Command,
+    file: &[u8],
+) -> Status {
     let manner = command.manner;
     let mut buffer = [0u8; ROOM];
-    match file_at(command.radio, MOST, &mut buffer) {
+    match file_at(rt, command.radio, MOST, &mut buffer) {
         File::Size(size) => {
             let whole = Part { place: 0, size };
-            comparing::compare_record(manner, file, command.number as usize, whole.slice(&buffer))
+            comparing::compare_record(
+                rt,
+                manner,
+                file,
+                command.number as usize,
+                whole.slice(&buffer),
+            )
         }
         File::Untaken => Status::Complained,
     }

@@ -7,8 +7,9 @@ use wording::refusals::{OF_FILE, Subject, TO_BE_MADE};
 use wording::telling::put;
 use wording::{Manner, Status, rows, tell};
 
-pub fn sum_file(manner: Manner, file: &[u8]) -> Status {
+pub fn sum_file(rt: &(impl Print + Eprint), manner: Manner, file: &[u8]) -> Status {
     tell(
+        rt,
         manner,
         Status::Done,
         rows::SUM,
@@ -17,24 +18,35 @@ pub fn sum_file(manner: Manner, file: &[u8]) -> Status {
     )
 }
 
-pub fn make_record(manner: Manner, message: &[u8]) -> Status {
+pub fn make_record(rt: &(impl Print + Eprint), manner: Manner, message: &[u8]) -> Status {
     let mut record = [0u8; Record::SIZE];
     match make(message, &mut record) {
-        Making::Made => put(&record, Status::Done),
-        Making::Refused(refusal) => refuse_message(manner, TO_BE_MADE, refusal.numbers()),
+        Making::Made => put(rt, &record, Status::Done),
+        Making::Refused(refusal) => refuse_message(rt, manner, TO_BE_MADE, refusal.numbers()),
     }
 }
 
 // The copy is lent in just the file's length; a file too long for any copy is refused before that is looked at.
-pub fn retire_record(manner: Manner, file: &[u8], record: usize) -> Status {
+pub fn retire_record(
+    rt: &(impl Print + Eprint),
+    manner: Manner,
+    file: &[u8],
+    record: usize,
+) -> Status {
     let mut copy = [0u8; Record::LARGEST_FILE];
-    retire_in(manner, file, record, front(&mut copy, file.len()))
+    retire_in(rt, manner, file, record, front(&mut copy, file.len()))
 }
 
-fn retire_in(manner: Manner, file: &[u8], record: usize, copy: &mut [u8]) -> Status {
+fn retire_in(
+    rt: &(impl Print + Eprint),
+    manner: Manner,
+    file: &[u8],
+    record: usize,
+    copy: &mut [u8],
+) -> Status {
     match retire(file, record, copy) {
-        Retiring::Done => put(copy, Status::Done),
-        Retiring::Refused(refusal) => refuse_retiring(manner, file, record, refusal),
+        Retiring::Done => put(rt, copy, Status::Done),
+        Retiring::Refused(refusal) => refuse_retiring(rt, manner, file, record, refusal),
     }
 }
 
@@ -46,7 +58,13 @@ fn front<'a>(buffer: &'a mut [u8], size: usize) -> &'a mut [u8] {
     &mut buffer[..size]
 }
 
-fn refuse_retiring(manner: Manner, file: &[u8], record: usize, refusal: Refusal) -> Status {
+fn refuse_retiring(
+    rt: &(impl Print + Eprint),
+    manner: Manner,
+    file: &[u8],
+    record: usize,
+    refusal: Refusal,
+) -> Status {
     let message = stored_message(file, record);
     let of = Subject {
         what: TO_BE_MADE,
@@ -55,5 +73,5 @@ fn refuse_retiring(manner: Manner, file: &[u8], record: usize, refusal: Refusal)
         whole: OF_FILE,
         from: message.place as u64,
     };
-    refuse_by(manner, of, refusal.numbers())
+    refuse_by(rt, manner, of, refusal.numbers())
 }

@@ -17,21 +17,26 @@ use wording::{Manner, Status, rows, tell};
 // The bytes of a body that are shown.
 const SHOWN: usize = 256;
 
-pub fn read_message(manner: Manner, message: &[u8]) -> Status {
+pub fn read_message(rt: &(impl Print + Eprint), manner: Manner, message: &[u8]) -> Status {
     match read(message) {
-        Reading::Accepted(accepted) => show_message(manner, accepted, message),
-        Reading::Refused(refusal) => show_refused(manner, refusal, message),
+        Reading::Accepted(accepted) => show_message(rt, manner, accepted, message),
+        Reading::Refused(refusal) => show_refused(rt, manner, refusal, message),
     }
 }
 
 // In words the bytes come behind the refusal.
-fn show_refused(manner: Manner, refusal: Refusal, message: &[u8]) -> Status {
-    let told = refuse_reading(manner, refusal);
+fn show_refused(
+    rt: &(impl Print + Eprint),
+    manner: Manner,
+    refusal: Refusal,
+    message: &[u8],
+) -> Status {
+    let told = refuse_reading(rt, manner, refusal);
     if told.is_complaint() {
         return told;
     }
     match manner {
-        Manner::Words => { show_marked(message, refusal.place, mark_of(refusal, message)) }
+        Manner::Words => { show_marked(rt, message, refusal.place, mark_of(refusal, message)) }
         _ => told,
     }
 }
@@ -45,30 +50,42 @@ fn mark_of(refusal: Refusal, message: &[u8]) -> u8 {
     }
 }
 
-pub fn refuse_reading(manner: Manner, refusal: Refusal) -> Status {
-    refuse_message(manner, ALONE, Numbers::by_reading(refusal))
+pub fn refuse_reading(rt: &(impl Print + Eprint), manner: Manner, refusal: Refusal) -> Status {
+    refuse_message(rt, manner, ALONE, Numbers::by_reading(refusal))
 }
 
 // What reading handed out of a message; plainly, one line.
-pub fn show_message(manner: Manner, accepted: Envelope, message: &[u8]) -> Status {
+pub fn show_message(
+    rt: &(impl Print + Eprint),
+    manner: Manner,
+    accepted: Envelope,
+    message: &[u8],
+) -> Status {
     let header = accepted.header;
     let body = accepted.body;
     let addressing = accepted.addressing;
     let integrity = accepted.integrity;
-    let first = show_header(manner, header, body.size, message);
+    let first = show_header(rt, manner, header, body.size, message);
     if first.is_complaint() {
         return first;
     }
-    let second = show_addressing(manner, addressing, body.place, message);
+    let second = show_addressing(rt, manner, addressing, body.place, message);
     if second.is_complaint() {
         return second;
     }
-    show_body(manner, body, header.flags, held_in(integrity), message)
+    show_body(rt, manner, body, header.flags, held_in(integrity), message)
 }
 
-fn show_header(manner: Manner, header: Header, data_length: usize, message: &[u8]) -> Status {
+fn show_header(
+    rt: &(impl Print + Eprint),
+    manner: Manner,
+    header: Header,
+    data_length: usize,
+    message: &[u8],
+) -> Status {
     let flags = header.flags;
     tell(
+        rt,
         manner,
         Status::Done,
         rows::HEADER,
@@ -91,24 +108,25 @@ fn show_header(manner: Manner, header: Header, data_length: usize, message: &[u8
 }
 
 fn show_addressing(
+    rt: &(impl Print + Eprint),
     manner: Manner,
     addressing: Addressing,
     body_place: usize,
     message: &[u8],
 ) -> Status {
     match addressing {
-        Addressing::Absent => tell(manner, Status::Done, rows::UNROUTED, &[0], message),
+        Addressing::Absent => tell(rt, manner, Status::Done, rows::UNROUTED, &[0], message),
         Addressing::Present {
             ttl,
             qos,
             source,
             destination,
         } => {
-            let routed = show_routing(manner, variable_size(body_place), ttl, qos, message);
+            let routed = show_routing(rt, manner, variable_size(body_place), ttl, qos, message);
             if routed.is_complaint() {
                 return routed;
             }
-            show_ends(manner, source, destination, message)
+            show_ends(rt, manner, source, destination, message)
         }
     }
 }
@@ -121,9 +139,17 @@ fn variable_size(body_place: usize) -> usize {
     body_place - Envelope::HEADER_SIZE
 }
 
-fn show_routing(manner: Manner, variable: usize, ttl: u16, qos: u16, message: &[u8]) -> Status {
+fn show_routing(
+    rt: &(impl Print + Eprint),
+    manner: Manner,
+    variable: usize,
+    ttl: u16,
+    qos: u16,
+    message: &[u8],
+) -> Status {
     let parts = split(qos);
     tell(
+        rt,
         manner,
         Status::Done,
         rows::ROUTED,
@@ -141,8 +167,15 @@ fn show_routing(manner: Manner, variable: usize, ttl: u16, qos: u16, message: &[
     )
 }
 
-fn show_ends(manner: Manner, source: Part, destination: Part, message: &[u8]) -> Status {
+fn show_ends(
+    rt: &(impl Print + Eprint),
+    manner: Manner,
+    source: Part,
+    destination: Part,
+    message: &[u8],
+) -> Status {
     tell(
+        rt,
         manner,
         Status::Done,
         rows::ENDS,
@@ -158,10 +191,18 @@ fn show_ends(manner: Manner, source: Part, destination: Part, message: &[u8]) ->
     )
 }
 
-fn show_body(manner: Manner, body: Part, flags: u8, held: u32, message: &[u8]) -> Status {
+fn show_body(
+    rt: &(impl Print + Eprint),
+    manner: Manner,
+    body: Part,
+    flags: u8,
+    held: u32,
+    message: &[u8],
+) -> Status {
     let place = body.place as u64;
     let left = left_of(body.size);
     tell(
+        rt,
         manner,
         Status::Done,
         rows::BODY,

@@ -4,11 +4,28 @@ use envelope::Numbers;
 use wording::refusals::{Subject, by_itself};
 use wording::{Manner, Status, refuse};
 
-pub fn refuse_by(manner: Manner, of: Subject, numbers: Numbers) -> Status {
-    refuse(manner, of, numbers.number, numbers.reading, numbers.place)
+pub fn refuse_by(
+    rt: &(impl Print + Eprint),
+    manner: Manner,
+    of: Subject,
+    numbers: Numbers,
+) -> Status {
+    refuse(
+        rt,
+        manner,
+        of,
+        numbers.number,
+        numbers.reading,
+        numbers.place,
+    )
 }
 
 // Of a message by itself, or of one that something was to be made of.
-pub fn refuse_message(manner: Manner, what: u64, numbers: Numbers) -> Status {
-    refuse_by(manner, by_itself(what), numbers)
+pub fn refuse_message(
+    rt: &(impl Print + Eprint),
+    manner: Manner,
+    what: u64,
+    numbers: Numbers,
+) -> Status {
+    refuse_by(rt, manner, by_itself(what), numbers)
 }

@@ -5,10 +5,11 @@ use crate::events::{Event, event_in};
 use crate::fates::tell_fates;
 use crate::ledger::ROOM;
 use crate::refusing::refuse_message;
-use crate::watching::more;
+use crate::watching::{PIECE, more};
+use console::errors::fail;
 use console::table::between;
-use libc::STDIN_FILENO;
 use sender::{Bench, Start, Step};
+use std::io::{Input, Read};
 use std::num::wrapping_add_usize;
 use wording::refusals::ALONE;
 use wording::{Manner, Status};
@@ -23,15 +24,16 @@ pub struct Sending {
     pub book: Book,
 }
 
-pub fn send(manner: Manner, resends: u64) -> Status {
+pub fn send(rt: &(impl Input + Print + Eprint), manner: Manner, resends: u64) -> Status {
     match Bench::new(resends) {
-        Start::Ready(bench) => send_from(manner, bench),
-        Start::Refused(refusal) => refuse_message(manner, ALONE, refusal.numbers()),
+        Start::Ready(bench) => send_from(rt, manner, bench),
+        Start::Refused(refusal) => refuse_message(rt, manner, ALONE, refusal.numbers()),
     }
 }
 
 // A proved loop has to end, so it counts its reads down, from a number that no input uses up; there it would end as the input does.
-fn send_from(manner: Manner, bench: Bench) -> Status {
+fn send_from(rt: &(impl Input + Print + Eprint), manner: Manner, bench: Bench) -> Status {
+    let mut input = rt.reader();
     let mut waiting = [0u32; Bench::PLACES];
     let mut line = [0u8; LINE];
     let mut ledger = [0u64; ROOM];
@@ -41,13 +43,21 @@ fn send_from(manner: Manner, bench: Bench) -> Status {
     };
     let mut reads = u64::MAX;
     while reads > 0 {
-        sending = read_piece(manner, &mut waiting, &mut line, &mut ledger, sending);
+        sending = read_piece(
+            rt,
+            &mut input,
+            manner,
+            &mut waiting,
+            &mut line,
+            &mut ledger,
+            sending,
+        );
         if is_over(sending) {
-            return tell_fates(manner, &waiting, &ledger, sending);
+            return tell_fates(rt, manner, &waiting, &ledger, sending);
         }
         reads -= 1;
     }
-    tell_fates(manner, &waiting, &ledger, sending)
+    tell_fates(rt, manner, &waiting, &ledger, sending)
 }
 
 fn new_book() -> Book {
@@ -71,23 +81,23 @@ fn is_over(sending: Sending) -> bool {
 
 // One read, which waits for a byte and no longer: what has come is answered before more is asked for.
 fn read_piece(
+    rt: &(impl Print + Eprint),
+    input: &mut impl Read,
     manner: Manner,
     waiting: &mut [u32; Bench::PLACES],
     line: &mut [u8; LINE],
     ledger: &mut [u64; ROOM],
     before: Sending,
 ) -> Sending {
-    let mut piece = io::buffer();
-    let got = libc::read(STDIN_FILENO, &mut piece);
-    if got < 0 {
-        os::fail(b"emp: cannot read standard input");
-        return with_book(before, stopped(before.book));
+    let mut piece = [0u8; PIECE];
+    match input.read(&mut piece) {
+        Ok(0) => take_last(rt, manner, waiting, line, ledger, before),
+        Ok(size) => take_piece(rt, manner, waiting, line, ledger, before, &piece[..size]),
+        Err(error) => {
+            fail(rt, b"emp: cannot read standard input", error);
+            with_book(before, stopped(before.book))
+        }
     }
-    if got == 0 {
-        return take_last(manner, waiting, line, ledger, before);
-    }
-    let size = io::count(got, &piece);
-    take_piece(manner, waiting, line, ledger, before, &piece[..size])
 }
 
 fn with_book(before: Sending, book: Book) -> Sending {
@@ -97,6 +107,7 @@ fn with_book(before: Sending, book: Book) -> Sending {
 
 // The last line may lack its line feed.
 fn take_last(
+    rt: &(impl Print + Eprint),
     manner: Manner,
     waiting: &mut [u32; Bench::PLACES],
     line: &mut [u8; LINE],
@@ -107,7 +118,7 @@ fn take_last(
     if book.size == 0 {
         return at_end(before);
     }
-    at_end(take_line(manner, waiting, line, ledger, before))
+    at_end(take_line(rt, manner, waiting, line, ledger, before))
 }
 
 fn at_end(before: Sending) -> Sending {
@@ -117,6 +128,7 @@ fn at_end(before: Sending) -> Sending {
 }
 
 fn take_piece(
+    rt: &(impl Print + Eprint),
     manner: Manner,
     waiting: &mut [u32; Bench::PLACES],
     line: &mut [u8; LINE],
@@ -127,7 +139,7 @@ fn take_piece(
     let mut sending = before;
     let mut i = 0;
     while i < piece.len() {
-        sending = take_byte(manner, waiting, line, ledger, sending, piece[i]);
+        sending = take_byte(rt, manner, waiting, line, ledger, sending, piece[i]);
         i += 1;
     }
     sending
@@ -135,6 +147,7 @@ fn take_piece(
 
 // Once an answer could not be written, nothing more is done.
 fn take_byte(
+    rt: &(impl Print + Eprint),
     manner: Manner,
     waiting: &mut [u32; Bench::PLACES],
     line: &mut [u8; LINE],
@@ -147,7 +160,7 @@ fn take_byte(
         return before;
     }
     if byte == b'\n' {
-        return take_line(manner, waiting, line, ledger, before);
+        return take_line(rt, manner, waiting, line, ledger, before);
     }
     let size = book.size;
     if size < LINE {
@@ -158,6 +171,7 @@ fn take_byte(
 }
 
 fn take_line(
+    rt: &(impl Print + Eprint),
     manner: Manner,
     waiting: &mut [u32; Bench::PLACES],
     line: &mut [u8; LINE],
@@ -169,13 +183,14 @@ fn take_line(
     book.lines = more(book.lines, 1);
     book.size = 0;
     if LINE < size {
-        return with_book(before, not_understood(manner, book));
+        return with_book(before, not_understood(rt, manner, book));
     }
     let event = event_in(between(line, 0, size));
-    take_event(manner, waiting, ledger, with_book(before, book), event)
+    take_event(rt, manner, waiting, ledger, with_book(before, book), event)
 }
 
 fn take_event(
+    rt: &(impl Print + Eprint),
     manner: Manner,
     waiting: &mut [u32; Bench::PLACES],
     ledger: &mut [u64; ROOM],
@@ -186,12 +201,34 @@ fn take_event(
     let book = before.book;
     match event {
         Event::Submit(commid) => {
-            take_step(manner, ledger, book, bench.submit(waiting, commid), commid)
+            take_step(
+                rt,
+                manner,
+                ledger,
+                book,
+                bench.submit(waiting, commid),
+                commid,
+            )
         }
-        Event::Ack(commid) => take_step(manner, ledger, book, bench.ack(waiting, commid), commid),
-        Event::Nak(commid) => take_step(manner, ledger, book, bench.nak(waiting, commid), commid),
+        Event::Ack(commid) => take_step(
+            rt,
+            manner,
+            ledger,
+            book,
+            bench.ack(waiting, commid),
+            commid,
+        ),
+        Event::Nak(commid) => take_step(
+            rt,
+            manner,
+            ledger,
+            book,
+            bench.nak(waiting, commid),
+            commid,
+        ),
         Event::TimeOut(commid) => {
             take_step(
+                rt,
                 manner,
                 ledger,
                 book,
@@ -199,11 +236,12 @@ fn take_event(
                 commid,
             )
         }
-        Event::Unknown => with_book(before, not_understood(manner, book)),
+        Event::Unknown => with_book(before, not_understood(rt, manner, book)),
     }
 }
 
 fn take_step(
+    rt: &(impl Print + Eprint),
     manner: Manner,
     ledger: &mut [u64; ROOM],
     book: Book,
@@ -214,6 +252,6 @@ fn take_step(
     let answer = step.answer;
     Sending {
         bench,
-        book: answered(manner, ledger, book, answer, commid),
+        book: answered(rt, manner, ledger, book, answer, commid),
     }
 }

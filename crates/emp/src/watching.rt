@@ -6,12 +6,16 @@ ghost use Rattle.emp.specs.Watching.{Onward};
 use crate::arrival::tell_message;
 use crate::golden_files::check_file;
 use crate::refusing::refuse_by;
+use console::errors::fail;
 use feed::{Feed, Found, Refusal, Standing, advance, close, held};
 use golden::{Checking, check};
-use libc::STDIN_FILENO;
+use std::io::{Input, Read};
 use std::num::wrapping_sub_u64;
 use wording::refusals::{MESSAGE, OF_STREAM, Subject};
 use wording::{Manner, Status};
+
+// The most bytes of a read.
+pub const PIECE: usize = 4_096;
 
 // How far a stream is: the feed without the bytes that it keeps, and what went by.
 #[derive(Clone, Copy)]
@@ -34,20 +38,26 @@ enum Course {
     Ended(Status),
 }
 
-pub fn watch_alone(manner: Manner) -> Status {
-    watch(manner, b"", false)
+pub fn watch_alone(rt: &(impl Input + Print + Eprint), manner: Manner) -> Status {
+    watch(rt, manner, b"", false)
 }
 
 // A bad golden file is told before any byte of the stream is read.
-pub fn watch_beside(manner: Manner, golden: &[u8]) -> Status {
+pub fn watch_beside(rt: &(impl Input + Print + Eprint), manner: Manner, golden: &[u8]) -> Status {
     match check(golden) {
-        Checking::Count(_) => watch(manner, golden, true),
-        _ => check_file(manner, golden),
+        Checking::Count(_) => watch(rt, manner, golden, true),
+        _ => check_file(rt, manner, golden),
     }
 }
 
 // A proved loop has to end, so it counts its reads down, from a number that no stream uses up; there it would end as a stream does.
-fn watch(manner: Manner, golden: &[u8], beside: bool) -> Status {
+fn watch(
+    rt: &(impl Input + Print + Eprint),
+    manner: Manner,
+    golden: &[u8],
+    beside: bool,
+) -> Status {
+    let mut input = rt.reader();
     let mut kept = [0u8; Feed::ROOM];
     let mut stream = Stream {
         count: 0,
@@ -59,7 +69,7 @@ fn watch(manner: Manner, golden: &[u8], beside: bool) -> Status {
     };
     let mut reads = u64::MAX;
     while reads > 0 {
-        match read_piece(manner, &mut kept, stream, golden) {
+        match read_piece(rt, &mut input, manner, &mut kept, stream, golden) {
             Course::Going {
                 stream: later,
                 used: _,
@@ -72,30 +82,31 @@ fn watch(manner: Manner, golden: &[u8], beside: bool) -> Status {
         }
         reads -= 1;
     }
-    end(manner, stream)
+    end(rt, manner, stream)
 }
 
 // One read, which waits for a byte and no longer: what has come is shown before more is asked for.
 fn read_piece(
+    rt: &(impl Print + Eprint),
+    input: &mut impl Read,
     manner: Manner,
     kept: &mut [u8; Feed::ROOM],
     stream: Stream,
     golden: &[u8],
 ) -> Course {
-    let mut piece = io::buffer();
-    let got = libc::read(STDIN_FILENO, &mut piece);
-    if got < 0 {
-        os::fail(b"emp: cannot read standard input");
-        return Course::Ended(Status::Complained);
+    let mut piece = [0u8; PIECE];
+    match input.read(&mut piece) {
+        Ok(0) => Course::Ended(end(rt, manner, stream)),
+        Ok(size) => take_piece(rt, manner, kept, stream, &piece[..size], golden),
+        Err(error) => {
+            fail(rt, b"emp: cannot read standard input", error);
+            Course::Ended(Status::Complained)
+        }
     }
-    if got == 0 {
-        return Course::Ended(end(manner, stream));
-    }
-    let size = io::count(got, &piece);
-    take_piece(manner, kept, stream, &piece[..size], golden)
 }
 
 fn take_piece(
+    rt: &(impl Print + Eprint),
     manner: Manner,
     kept: &mut [u8; Feed::ROOM],
     before: Stream,
@@ -105,7 +116,7 @@ fn take_piece(
     let mut stream = before;
     let mut from = 0;
     while from < piece.len() {
-        match take_some(manner, kept, stream, &piece[from..], golden) {
+        match take_some(rt, manner, kept, stream, &piece[from..], golden) {
             Course::Going {
                 stream: later,
                 used,
@@ -123,6 +134,7 @@ fn take_piece(
 
 // One call of the feed, and what it found told. It goes on by a byte at least, and by no more than the piece has.
 fn take_some(
+    rt: &(impl Print + Eprint),
     manner: Manner,
     kept: &mut [u8; Feed::ROOM],
     before: Stream,
@@ -143,7 +155,7 @@ fn take_some(
         Found::Message { size: _, envelope } => {
             let header = envelope.header;
             let message = held(kept, step.count, stands);
-            match tell_message(manner, stream, header, message, golden) {
+            match tell_message(rt, manner, stream, header, message, golden) {
                 Status::Done => Course::Going {
                     stream: passed(stream, header.number),
                     used,
@@ -151,7 +163,7 @@ fn take_some(
                 _ => Course::Ended(Status::Complained),
             }
         }
-        Found::Refused(refusal) => Course::Ended(refuse_message(manner, stream, refusal)),
+        Found::Refused(refusal) => Course::Ended(refuse_message(rt, manner, stream, refusal)),
     }
 }
 
@@ -180,18 +192,23 @@ fn passed(before: Stream, number: u32) -> Stream {
     }
 }
 
-fn end(manner: Manner, stream: Stream) -> Status {
+fn end(rt: &(impl Print + Eprint), manner: Manner, stream: Stream) -> Status {
     let standing = stream.standing;
     let step = close(stream.count, standing);
     let found = step.found;
     match found {
-        Found::Refused(refusal) => refuse_message(manner, stream, refusal),
+        Found::Refused(refusal) => refuse_message(rt, manner, stream, refusal),
         _ => Status::Done,
     }
 }
 
 // The message that is on its way is the one refused, by the last of the bytes so far, of which so many are its own.
-fn refuse_message(manner: Manner, stream: Stream, refusal: Refusal) -> Status {
+fn refuse_message(
+    rt: &(impl Print + Eprint),
+    manner: Manner,
+    stream: Stream,
+    refusal: Refusal,
+) -> Status {
     let bytes = stream.bytes;
     let of = Subject {
         what: MESSAGE,
@@ -200,7 +217,7 @@ fn refuse_message(manner: Manner, stream: Stream, refusal: Refusal) -> Status {
         whole: OF_STREAM,
         from: wrapping_sub_u64(bytes, stream.count as u64),
     };
-    refuse_by(manner, of, refusal.numbers())
+    refuse_by(rt, manner, of, refusal.numbers())
 }
 
 // A sum that stays at the largest number where it would go past it.

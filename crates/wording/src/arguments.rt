@@ -1,11 +1,15 @@
 // The words that the tool is called with: options, and names, of which the first is the command's.
-// Rests on the kit's `os`; the options are a table that is lent.
+// Rests on std's `env`; the options are a table that is lent.
 use console::files::is_standard_input;
 use console::table::row_named;
+use std::env::{Env, FillError};
 use std::num::wrapping_add_usize;
 
 // The most names that a command takes, its own among them.
 pub const NAMES: usize = 4;
+
+// The most bytes of a word that are taken.
+pub(crate) const WORD: usize = 4_096;
 
 pub const BLANK: u8 = b' ';
 
@@ -40,7 +44,7 @@ const NAMES_ALONE: usize = 5;
 const HALVING: usize = 6;
 
 // Reads every argument, and puts the places of those that are names into the list.
-pub fn given_by(options: &[u8], names: &mut [usize; NAMES]) -> Given {
+pub fn given_by(rt: &impl Env, options: &[u8], names: &mut [usize; NAMES]) -> Given {
     let mut given = Given {
         names: 0,
         plain: false,
@@ -52,11 +56,19 @@ pub fn given_by(options: &[u8], names: &mut [usize; NAMES]) -> Given {
         unknown: 0,
         too_long: false,
     };
-    let count = os::arg_count();
-    let mut argument = 1;
-    while argument < count {
-        given = with_argument(given, options, names, argument);
-        argument += 1;
+    let mut word = [0u8; WORD];
+    for argument in 1..usize::MAX {
+        match rt.arg(argument, &mut word) {
+            Ok(size) => {
+                given = with_argument(given, options, names, argument, &word[..size]);
+            }
+            Err(FillError::TooLong) => {
+                given = with_too_long(given);
+            }
+            Err(FillError::NotPresent) => {
+                return given;
+            }
+        }
     }
     given
 }
@@ -66,17 +78,21 @@ fn with_argument(
     options: &[u8],
     names: &mut [usize; NAMES],
     argument: usize,
+    word: &[u8],
 ) -> Given {
-    let mut word = io::buffer();
-    let size = os::arg(argument, &mut word);
-    if os::errno() != 0 {
-        return with_too_long(before);
-    }
-    if before.names_alone || is_name(&word[..size]) {
+    if before.names_alone || is_name(word) {
         note(names, before.names, argument);
         return with_name(before);
     }
-    with_option(before, row_named(options, BLANK, &word[..size]), argument)
+    with_option(before, row_named(options, BLANK, word), argument)
+}
+
+// An argument that was read before, in the room that is lent.
+pub(crate) fn word_at<'a>(rt: &impl Env, argument: usize, room: &'a mut [u8]) -> &'a [u8] {
+    match rt.arg(argument, room) {
+        Ok(size) => &room[..size],
+        Err(_) => &room[..0],
+    }
 }
 
 // A word that does not begin with a hyphen, and the hyphen alone, which stands for standard input.

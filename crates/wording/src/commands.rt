@@ -1,6 +1,6 @@
 // A command with its numbers, out of the words that the tool is called with, before any file is opened.
 // Rests on `console` for tables and numbers, and on `arguments`; the table of commands is lent.
-use crate::arguments::{BLANK, Given, NAMES};
+use crate::arguments::{BLANK, Given, NAMES, WORD, word_at};
 use crate::rows;
 use crate::status::Status;
 use crate::telling::{Manner, complain};
@@ -8,6 +8,7 @@ use console::decimal::{Decimal, decimal_of};
 use console::files::is_standard_input;
 use console::nearest::nearest;
 use console::table::{piece, pieces, row, row_named};
+use std::env::Env;
 use std::num::wrapping_add_usize;
 
 pub const TAB: u8 = b'\t';
@@ -77,49 +78,56 @@ struct Taken {
 }
 
 // The row of a command's name: one past the last, with the complaint made, where there is none.
-pub fn row_of(commands: &[u8], argument: usize) -> usize {
-    let mut word = io::buffer();
-    let size = os::arg(argument, &mut word);
-    let found = row_named(commands, BLANK, &word[..size]);
+pub fn row_of(rt: &(impl Env + Print + Eprint), commands: &[u8], argument: usize) -> usize {
+    let mut room = [0u8; WORD];
+    let word = word_at(rt, argument, &mut room);
+    let found = row_named(commands, BLANK, word);
     let line = row(commands, found);
     if line.len() == 0 {
-        let near = nearest(commands, BLANK, &word[..size]);
+        let near = nearest(commands, BLANK, word);
         complain(
+            rt,
             rows::UNKNOWN_COMMAND,
-            &word[..size],
+            word,
             piece(row(commands, near), BLANK, 0),
         );
     }
     found
 }
 
-pub fn unknown_option(options: &[u8], argument: usize) -> Status {
-    let mut word = io::buffer();
-    let size = os::arg(argument, &mut word);
-    let near = nearest(options, BLANK, &word[..size]);
-    complain(rows::UNKNOWN_OPTION, &word[..size], row(options, near))
+pub fn unknown_option(rt: &(impl Env + Print + Eprint), options: &[u8], argument: usize) -> Status {
+    let mut room = [0u8; WORD];
+    let word = word_at(rt, argument, &mut room);
+    let near = nearest(options, BLANK, word);
+    complain(rt, rows::UNKNOWN_OPTION, word, row(options, near))
 }
 
 // The command of a row, where it has as many words as its form, each of its kind.
-pub fn command_of(form: &[u8], found: usize, given: Given, names: &[usize; NAMES]) -> Asked {
+pub fn command_of(
+    rt: &(impl Env + Print + Eprint),
+    form: &[u8],
+    found: usize,
+    given: Given,
+    names: &[usize; NAMES],
+) -> Asked {
     let most = pieces(form, BLANK);
     if most < given.names {
-        complain(rows::TOO_MANY_WORDS, form, form);
+        complain(rt, rows::TOO_MANY_WORDS, form, form);
         return Asked::Wrong;
     }
     if wrapping_add_usize(given.names, may_be_left_out(form)) < most {
-        complain(rows::TOO_FEW_WORDS, form, form);
+        complain(rt, rows::TOO_FEW_WORDS, form, form);
         return Asked::Wrong;
     }
     if given.quiet && found != CHECK && found != COMPARE {
-        complain(rows::NOT_QUIET, form, form);
+        complain(rt, rows::NOT_QUIET, form, form);
         return Asked::Wrong;
     }
     if given.halving && found != FIND {
-        complain(rows::NOT_HALVING, form, form);
+        complain(rt, rows::NOT_HALVING, form, form);
         return Asked::Wrong;
     }
-    with_arguments(form, found, given, names)
+    with_arguments(rt, form, found, given, names)
 }
 
 // A last word in brackets.
@@ -130,13 +138,19 @@ fn may_be_left_out(form: &[u8]) -> usize {
     (form[form.len() - 1] == b']') as usize
 }
 
-fn with_arguments(form: &[u8], found: usize, given: Given, names: &[usize; NAMES]) -> Asked {
-    let taken = take_all(form, given.names, names, (found == WATCH) as usize);
+fn with_arguments(
+    rt: &(impl Env + Print + Eprint),
+    form: &[u8],
+    found: usize,
+    given: Given,
+    names: &[usize; NAMES],
+) -> Asked {
+    let taken = take_all(rt, form, given.names, names, (found == WATCH) as usize);
     if taken.wrong {
         return Asked::Wrong;
     }
     if 1 < taken.inputs {
-        complain(rows::ONE_INPUT, form, form);
+        complain(rt, rows::ONE_INPUT, form, form);
         return Asked::Wrong;
     }
     Asked::Command(Command {
@@ -165,7 +179,13 @@ pub fn manner_of_help(given: Given) -> Manner {
     Manner::Words
 }
 
-fn take_all(form: &[u8], count: usize, names: &[usize; NAMES], inputs: usize) -> Taken {
+fn take_all(
+    rt: &(impl Env + Print + Eprint),
+    form: &[u8],
+    count: usize,
+    names: &[usize; NAMES],
+    inputs: usize,
+) -> Taken {
     let mut taken = Taken {
         numbered: false,
         number: 0,
@@ -178,7 +198,7 @@ fn take_all(form: &[u8], count: usize, names: &[usize; NAMES], inputs: usize) ->
     let mut k = 1;
     while k < NAMES {
         if k < count {
-            taken = take_one(taken, piece(form, BLANK, k), names[k]);
+            taken = take_one(rt, taken, piece(form, BLANK, k), names[k]);
         }
         k += 1;
     }
@@ -186,8 +206,14 @@ fn take_all(form: &[u8], count: usize, names: &[usize; NAMES], inputs: usize) ->
 }
 
 // A word of the form that the table has is a number, with its largest; any other names a file.
-fn take_one(before: Taken, name: &[u8], argument: usize) -> Taken {
+fn take_one(
+    rt: &(impl Env + Print + Eprint),
+    before: Taken,
+    name: &[u8],
+    argument: usize,
+) -> Taken {
     take_by(
+        rt,
         before,
         name,
         argument,
@@ -203,24 +229,36 @@ RESENDS 18446744073709551615
     )
 }
 
-fn take_by(before: Taken, name: &[u8], argument: usize, numbers: &[u8]) -> Taken {
+fn take_by(
+    rt: &(impl Env + Print + Eprint),
+    before: Taken,
+    name: &[u8],
+    argument: usize,
+    numbers: &[u8],
+) -> Taken {
     if before.wrong {
         return before;
     }
-    let mut word = io::buffer();
-    let size = os::arg(argument, &mut word);
+    let mut room = [0u8; WORD];
+    let word = word_at(rt, argument, &mut room);
     let largest = piece(row(numbers, row_named(numbers, BLANK, name)), BLANK, 1);
     if largest.len() == 0 {
-        return with_file(before, argument, is_standard_input(&word[..size]));
+        return with_file(before, argument, is_standard_input(word));
     }
-    with_number(before, name, largest, &word[..size])
+    with_number(rt, before, name, largest, word)
 }
 
-fn with_number(before: Taken, name: &[u8], largest: &[u8], word: &[u8]) -> Taken {
+fn with_number(
+    rt: &(impl Print + Eprint),
+    before: Taken,
+    name: &[u8],
+    largest: &[u8],
+    word: &[u8],
+) -> Taken {
     match decimal_of(word, number_in(largest)) {
         Decimal::Number(n) => numbered(before, n),
         Decimal::NotANumber => {
-            complain(rows::NOT_A_NUMBER, name, largest);
+            complain(rt, rows::NOT_A_NUMBER, name, largest);
             wrong(before)
         }
     }

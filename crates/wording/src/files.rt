@@ -1,9 +1,13 @@
 // The files that a command names, or the complaint.
 // Rests on `console`, which opens them for reading only and takes them whole.
+use crate::arguments::{WORD, word_at};
 use crate::rows;
-use crate::telling::{SHOWN, complain};
+use crate::telling::{PAGE, SHOWN, complain};
+use console::errors;
 use console::files::{Content, take};
 use console::filling::fill;
+use std::io::{Error, Input};
+use std::rt::{Env, Files};
 
 // The most bytes that are taken from a file, and a byte more, so that a longer file is seen to be longer.
 pub const MOST: usize = 65_536;
@@ -17,29 +21,34 @@ pub enum File {
 }
 
 // The file that an argument names. One with more than the most bytes is taken where the library is to refuse it.
-pub fn file_at(argument: usize, most: usize, buffer: &mut [u8]) -> File {
-    let mut name = io::buffer();
-    let size = os::arg(argument, &mut name);
-    match take(&name[..size], buffer) {
+pub fn file_at(
+    rt: &(impl Env + Files + Input + Print + Eprint),
+    argument: usize,
+    most: usize,
+    buffer: &mut [u8],
+) -> File {
+    let mut word = [0u8; WORD];
+    let name = word_at(rt, argument, &mut word);
+    match take(rt, name, buffer) {
         Content::Size(taken) => {
             if most < taken {
-                return too_large(&name[..size]);
+                return too_large(rt, name);
             }
             File::Size(taken)
         }
-        Content::NotOpened => failed(0, &name[..size]),
-        Content::NotRead => failed(1, &name[..size]),
+        Content::NotOpened(error) => failed(rt, 0, name, error),
+        Content::NotRead(error) => failed(rt, 1, name, error),
     }
 }
 
-fn too_large(name: &[u8]) -> File {
-    complain(rows::LARGE_FILE, name, name);
+fn too_large(rt: &(impl Print + Eprint), name: &[u8]) -> File {
+    complain(rt, rows::LARGE_FILE, name, name);
     File::Untaken
 }
 
 // The name, and the system's reason.
-fn failed(reading: u64, name: &[u8]) -> File {
-    let mut page = io::buffer();
+fn failed(rt: &impl Eprint, reading: u64, name: &[u8], error: Error) -> File {
+    let mut page = [0u8; PAGE];
     let size = fill(
         &mut page,
         0,
@@ -47,6 +56,6 @@ fn failed(reading: u64, name: &[u8]) -> File {
         &[reading, 0, SHOWN],
         name,
     );
-    os::fail(&page[..size]);
+    errors::fail(rt, &page[..size], error);
     File::Untaken
 }

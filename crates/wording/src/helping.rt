@@ -4,20 +4,22 @@ use crate::commands::TAB;
 use crate::refusals::list_refusals;
 use crate::rows;
 use crate::status::Status;
-use crate::telling::{Manner, put, tell};
+use crate::telling::{Manner, PAGE, put, tell};
 use console::table::{piece, row};
+use std::env::Env;
 use std::num::wrapping_add_usize;
 
-// The launcher has the name of the kit that proved the program ready on this descriptor.
-const KIT: i32 = 8;
+// The variable in which the launcher gives the name of the kit that proved the program.
+const KIT: &str = "EMP_KIT";
 
 // One command, by its row of the table: its form, what it does, and the lines that it tells plainly.
-pub fn help_for(manner: Manner, line: &[u8], whole: bool) -> Status {
+pub fn help_for(rt: &(impl Print + Eprint), manner: Manner, line: &[u8], whole: bool) -> Status {
     let form = piece(line, TAB, 0).len();
     let does = piece(line, TAB, 1).len();
     let behind_form = wrapping_add_usize(form, 1);
     let behind = wrapping_add_usize(wrapping_add_usize(behind_form, does), 1);
     tell(
+        rt,
         manner,
         Status::Done,
         rows::COMMAND,
@@ -34,30 +36,32 @@ pub fn help_for(manner: Manner, line: &[u8], whole: bool) -> Status {
     )
 }
 
-pub fn help(manner: Manner, commands: &[u8]) -> Status {
+pub fn help(rt: &(impl Print + Eprint), manner: Manner, commands: &[u8]) -> Status {
     match manner {
-        Manner::Words => help_in_words(commands),
-        _ => list_commands(manner, commands),
+        Manner::Words => help_in_words(rt, commands),
+        _ => list_commands(rt, manner, commands),
     }
 }
 
-fn help_in_words(commands: &[u8]) -> Status {
+fn help_in_words(rt: &(impl Print + Eprint), commands: &[u8]) -> Status {
     let head = put(
+        rt,
         b"emp tells what golden files, EMP messages and Class D frames hold. Files are opened for reading only.\n\n",
         Status::Done,
     );
     if head.is_complaint() {
         return head;
     }
-    let listed = list_commands(Manner::Words, commands);
+    let listed = list_commands(rt, Manner::Words, commands);
     if listed.is_complaint() {
         return listed;
     }
-    help_on_the_rest()
+    help_on_the_rest(rt)
 }
 
-fn help_on_the_rest() -> Status {
+fn help_on_the_rest(rt: &(impl Print + Eprint)) -> Status {
     let rest = put(
+        rt,
         b"
 GOLDEN, RADIO, MESSAGE, FRAME and FILE are names of files, from which at most 65536 bytes are taken; - is standard
 input, which one of them may be. TYPE, NUMBER, RECORD, COMMID, ACKNOWLEDGED, ENTRY, CLOCK and RESENDS are numbers in
@@ -88,20 +92,20 @@ Refusals
     if rest.is_complaint() {
         return rest;
     }
-    match list_refusals() {
+    match list_refusals(rt) {
         Status::Complained => Status::Complained,
         _ => Status::Done,
     }
 }
 
-fn list_commands(manner: Manner, commands: &[u8]) -> Status {
+fn list_commands(rt: &(impl Print + Eprint), manner: Manner, commands: &[u8]) -> Status {
     let mut k = 0;
     while k < commands.len() {
         let line = row(commands, k);
         if line.len() == 0 {
             return Status::Done;
         }
-        if help_for(manner, line, false).is_complaint() {
+        if help_for(rt, manner, line, false).is_complaint() {
             return Status::Complained;
         }
         k += 1;
@@ -110,15 +114,24 @@ fn list_commands(manner: Manner, commands: &[u8]) -> Status {
 }
 
 // What the tool is, and by what it was proved.
-pub fn version(manner: Manner) -> Status {
-    let mut kit = io::buffer();
-    let got = libc::read(KIT, &mut kit);
-    let size = io::count(got, &kit);
+pub fn version(rt: &(impl Env + Print + Eprint), manner: Manner) -> Status {
+    let mut room = [0u8; PAGE];
+    let kit = kit_in(rt, &mut room);
+    let size = kit.len();
     tell(
+        rt,
         manner,
         Status::Done,
         rows::VERSION,
         &[(size != 0) as u64, 0, size as u64],
-        &kit[..size],
+        kit,
     )
+}
+
+// Nothing, where the kit is not known.
+fn kit_in<'a>(rt: &impl Env, room: &'a mut [u8]) -> &'a [u8] {
+    match rt.var(KIT, room) {
+        Ok(size) => &room[..size],
+        Err(_) => &room[..0],
+    }
 }

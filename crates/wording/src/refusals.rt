@@ -2,8 +2,7 @@
 // Rests on `telling`, which has the template of them all and fills the words in.
 use crate::rows;
 use crate::status::Status;
-use crate::telling::{Manner, half_of, put_by};
-use libc::{STDERR_FILENO, STDOUT_FILENO};
+use crate::telling::{Manner, To, half_of, put_by};
 use std::num::wrapping_add_u64;
 
 // What is refused: by this the template's choices go.
@@ -65,7 +64,14 @@ pub fn by_itself(what: u64) -> Subject {
 }
 
 // A refusal by its number, that of reading, or 0, and the place in the message.
-pub fn refuse(manner: Manner, of: Subject, refusal: u8, reading: u8, place: usize) -> Status {
+pub fn refuse(
+    rt: &(impl Print + Eprint),
+    manner: Manner,
+    of: Subject,
+    refusal: u8,
+    reading: u8,
+    place: usize,
+) -> Status {
     let what = of.what;
     let number = of.number;
     let further = of.further;
@@ -73,7 +79,8 @@ pub fn refuse(manner: Manner, of: Subject, refusal: u8, reading: u8, place: usiz
     let place = place as u64;
     let in_whole = wrapping_add_u64(of.from, place);
     by_refusals(
-        descriptor_for(what),
+        rt,
+        stream_for(what),
         half_of(manner, rows::REFUSED),
         &[
             what,
@@ -103,11 +110,11 @@ pub fn refuse(manner: Manner, of: Subject, refusal: u8, reading: u8, place: usiz
 }
 
 // Where something was to be made, standard output is for its bytes.
-fn descriptor_for(what: u64) -> i32 {
+fn stream_for(what: u64) -> To {
     if what == TO_BE_MADE {
-        return STDERR_FILENO;
+        return To::Errors;
     }
-    STDOUT_FILENO
+    To::Output
 }
 
 // The rule of reading that is broken, be it passed on: 0 where reading had no part.
@@ -127,17 +134,19 @@ fn whole_of(rule: u8, whole: u64) -> u64 {
 }
 
 // All of them, a line each.
-pub(crate) fn list_refusals() -> Status {
+pub(crate) fn list_refusals(rt: &(impl Print + Eprint)) -> Status {
     by_refusals(
-        STDOUT_FILENO,
+        rt,
+        To::Output,
         half_of(Manner::Words, rows::ALL_REFUSALS),
         &[0, u64::MAX],
     )
 }
 
 // A template of refusals, by its half.
-fn by_refusals(to: i32, half: usize, numbers: &[u64]) -> Status {
+fn by_refusals(rt: &(impl Print + Eprint), to: To, half: usize, numbers: &[u64]) -> Status {
     put_by(
+        rt,
         to,
         Status::Refused,
         half,

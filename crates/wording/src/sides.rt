@@ -35,6 +35,7 @@ const NUMBERS: usize = 65;
 
 // Where two messages differ, in this many places. Each line is written by itself, and none behind one that could not be.
 pub fn show_difference(
+    rt: &(impl Print + Eprint),
     manner: Manner,
     golden: &[u8],
     radio: &[u8],
@@ -42,6 +43,7 @@ pub fn show_difference(
     marks: &[u8],
 ) -> Status {
     let head = tell(
+        rt,
         manner,
         Status::Refused,
         rows::DIFFERENT,
@@ -52,34 +54,41 @@ pub fn show_difference(
         return Status::Complained;
     }
     match manner {
-        Manner::Words => show_sides(golden, radio, marks),
-        Manner::Plain => show_places(golden, radio, marks),
+        Manner::Words => show_sides(rt, golden, radio, marks),
+        Manner::Plain => show_places(rt, golden, radio, marks),
         Manner::Quiet => Status::Refused,
     }
 }
 
 // A golden message ends before the rows do, so every place of the radio's after them differs.
-fn show_sides(golden: &[u8], radio: &[u8], marks: &[u8]) -> Status {
-    if show_rows(golden, radio, marks, false).is_complaint() {
+fn show_sides(rt: &(impl Print + Eprint), golden: &[u8], radio: &[u8], marks: &[u8]) -> Status {
+    if show_rows(rt, golden, radio, marks, false).is_complaint() {
         return Status::Complained;
     }
-    show_more(PLACES, radio.len(), 1)
+    show_more(rt, PLACES, radio.len(), 1)
 }
 
 // A message with one place in brackets. The row of a place beyond those shown comes behind them.
-pub fn show_marked(message: &[u8], place: usize, mark: u8) -> Status {
-    let head = tell(Manner::Words, Status::Refused, rows::MARKED, &[0], message);
+pub fn show_marked(rt: &(impl Print + Eprint), message: &[u8], place: usize, mark: u8) -> Status {
+    let head = tell(
+        rt,
+        Manner::Words,
+        Status::Refused,
+        rows::MARKED,
+        &[0],
+        message,
+    );
     if head.is_complaint() {
         return Status::Complained;
     }
     let marks = marks_with(place, mark);
-    if show_rows(message, message, &marks, true).is_complaint() {
+    if show_rows(rt, message, message, &marks, true).is_complaint() {
         return Status::Complained;
     }
     if place < PLACES {
-        return show_more(PLACES, message.len(), 0);
+        return show_more(rt, PLACES, message.len(), 0);
     }
-    show_beyond(message, place, mark)
+    show_beyond(rt, message, place, mark)
 }
 
 fn marks_with(place: usize, mark: u8) -> [u8; PLACES] {
@@ -90,24 +99,39 @@ fn marks_with(place: usize, mark: u8) -> [u8; PLACES] {
     marks
 }
 
-fn show_beyond(message: &[u8], place: usize, mark: u8) -> Status {
+fn show_beyond(rt: &(impl Print + Eprint), message: &[u8], place: usize, mark: u8) -> Status {
     let column = place % ROW;
     let row = place - column;
     let mut marks = [0u8; ROW];
     marks[column] = mark;
-    if show_more(PLACES, row, 0).is_complaint() {
+    if show_more(rt, PLACES, row, 0).is_complaint() {
         return Status::Complained;
     }
-    if show_row(message, message, &marks, row, true).is_complaint() {
+    if show_row(rt, message, message, &marks, row, true).is_complaint() {
         return Status::Complained;
     }
-    show_more(wrapping_add_usize(row, ROW), message.len(), 0)
+    show_more(rt, wrapping_add_usize(row, ROW), message.len(), 0)
 }
 
-fn show_rows(golden: &[u8], radio: &[u8], marks: &[u8], alone: bool) -> Status {
+fn show_rows(
+    rt: &(impl Print + Eprint),
+    golden: &[u8],
+    radio: &[u8],
+    marks: &[u8],
+    alone: bool,
+) -> Status {
     let mut row = 0;
     while row < PLACES {
-        if show_row(golden, radio, between(marks, row, row + ROW), row, alone).is_complaint() {
+        if show_row(
+            rt,
+            golden,
+            radio,
+            between(marks, row, row + ROW),
+            row,
+            alone,
+        )
+        .is_complaint()
+        {
             return Status::Complained;
         }
         row += ROW;
@@ -116,7 +140,14 @@ fn show_rows(golden: &[u8], radio: &[u8], marks: &[u8], alone: bool) -> Status {
 }
 
 // The row that begins at a place, by its own marks. Of a message alone the other side is left out.
-fn show_row(golden: &[u8], radio: &[u8], marks: &[u8], row: usize, alone: bool) -> Status {
+fn show_row(
+    rt: &(impl Print + Eprint),
+    golden: &[u8],
+    radio: &[u8],
+    marks: &[u8],
+    row: usize,
+    alone: bool,
+) -> Status {
     let first = first_named(marks);
     if golden.len() <= row && radio.len() <= row && first == FIELDS {
         return Status::Refused;
@@ -125,7 +156,14 @@ fn show_row(golden: &[u8], radio: &[u8], marks: &[u8], row: usize, alone: bool) 
     for k in 0..NUMBERS {
         numbers[k] = number_of(golden, radio, marks, row, alone, first, k);
     }
-    tell(Manner::Words, Status::Refused, rows::ROW, &numbers, golden)
+    tell(
+        rt,
+        Manner::Words,
+        Status::Refused,
+        rows::ROW,
+        &numbers,
+        golden,
+    )
 }
 
 // The number of a row that its template takes behind so many others.
@@ -240,12 +278,13 @@ fn is_mark_of(mark: u8, order: usize) -> bool {
 }
 
 // The rows from a place to an end that are not shown, and, of two messages, their places.
-fn show_more(from: usize, end: usize, differing: u64) -> Status {
+fn show_more(rt: &(impl Print + Eprint), from: usize, end: usize, differing: u64) -> Status {
     if end <= from {
         return Status::Refused;
     }
     let left = end - from;
     tell(
+        rt,
         Manner::Words,
         Status::Refused,
         rows::MORE,
@@ -255,10 +294,10 @@ fn show_more(from: usize, end: usize, differing: u64) -> Status {
 }
 
 // The differing places that are shown.
-fn show_places(golden: &[u8], radio: &[u8], marks: &[u8]) -> Status {
+fn show_places(rt: &(impl Print + Eprint), golden: &[u8], radio: &[u8], marks: &[u8]) -> Status {
     let mut place = 0;
     while place < marks.len() {
-        if show_place(golden, radio, place, marks[place]).is_complaint() {
+        if show_place(rt, golden, radio, place, marks[place]).is_complaint() {
             return Status::Complained;
         }
         place += 1;
@@ -266,11 +305,18 @@ fn show_places(golden: &[u8], radio: &[u8], marks: &[u8]) -> Status {
     Status::Refused
 }
 
-fn show_place(golden: &[u8], radio: &[u8], place: usize, mark: u8) -> Status {
+fn show_place(
+    rt: &(impl Print + Eprint),
+    golden: &[u8],
+    radio: &[u8],
+    place: usize,
+    mark: u8,
+) -> Status {
     if mark == 0 {
         return Status::Refused;
     }
     tell(
+        rt,
         Manner::Plain,
         Status::Refused,
         rows::PLACE,

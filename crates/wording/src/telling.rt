@@ -1,9 +1,10 @@
 // Every answer of the tool as a template, in words and plainly, and the complaints of its words and files. A template goes by its row.
-// Rests on `console`, which fills a template in. What is told is made whole and then written in one call; of a complaint, each half.
+// Rests on `console`, which fills a template in. What is told is made whole and then written in one call; a complaint is told by halves.
 use crate::status::Status;
+use console::errors;
 use console::filling::fill;
 use console::table::piece;
-use libc::{STDERR_FILENO, STDOUT_FILENO};
+use std::io::Result;
 use std::num::wrapping_add_usize;
 
 #[derive(Clone, Copy)]
@@ -14,18 +15,35 @@ pub enum Manner {
     Quiet,
 }
 
+// Standard output, or standard error.
+#[derive(Clone, Copy)]
+pub(crate) enum To {
+    Output,
+    Errors,
+}
+
 // What ends a half of a template: the words, and then what is told plainly; of a complaint, its beginning and its end.
 const HALF_END: u8 = 0;
 
 // As much of a word is shown in a complaint: in hex it fills a page.
 pub(crate) const SHOWN: u64 = 1_000;
 
+// The bytes of a page.
+pub(crate) const PAGE: usize = 4_096;
+
 // No half has this place.
 const NO_HALF: usize = 1_000;
 
 // An answer, or a part of one, on standard output; the status, or, where it could not be written, the complaint. `lent` is what the template's marks for text speak of.
-pub fn tell(manner: Manner, status: Status, row: usize, numbers: &[u64], lent: &[u8]) -> Status {
-    put_by(STDOUT_FILENO, status, half_of(manner, row), numbers, lent)
+pub fn tell(
+    rt: &(impl Print + Eprint),
+    manner: Manner,
+    status: Status,
+    row: usize,
+    numbers: &[u64],
+    lent: &[u8],
+) -> Status {
+    put_by(rt, To::Output, status, half_of(manner, row), numbers, lent)
 }
 
 // Which half of all: none, where only the status is wanted.
@@ -37,8 +55,16 @@ pub(crate) fn half_of(manner: Manner, row: usize) -> usize {
     }
 }
 
-pub(crate) fn put_by(to: i32, status: Status, half: usize, numbers: &[u64], lent: &[u8]) -> Status {
+pub(crate) fn put_by(
+    rt: &(impl Print + Eprint),
+    to: To,
+    status: Status,
+    half: usize,
+    numbers: &[u64],
+    lent: &[u8],
+) -> Status {
     put_template(
+        rt,
         to,
         status,
         half,
@@ -154,14 +180,15 @@ place   golden                            radio                           differ
 }
 
 fn put_template(
-    to: i32,
+    rt: &(impl Print + Eprint),
+    to: To,
     status: Status,
     half: usize,
     numbers: &[u64],
     lent: &[u8],
     templates: &[u8],
 ) -> Status {
-    let mut page = io::buffer();
+    let mut page = [0u8; PAGE];
     let size = fill(
         &mut page,
         0,
@@ -169,34 +196,45 @@ fn put_template(
         numbers,
         lent,
     );
-    put_on(to, &page[..size], status)
+    put_on(rt, to, &page[..size], status)
 }
 
 // Bytes on standard output, and the status, unless they could not be written.
-pub fn put(bytes: &[u8], status: Status) -> Status {
-    put_on(STDOUT_FILENO, bytes, status)
+pub fn put(rt: &(impl Print + Eprint), bytes: &[u8], status: Status) -> Status {
+    put_on(rt, To::Output, bytes, status)
 }
 
-fn put_on(to: i32, bytes: &[u8], status: Status) -> Status {
-    if io::write_all(to, bytes) {
-        return status;
+fn put_on(rt: &(impl Print + Eprint), to: To, bytes: &[u8], status: Status) -> Status {
+    match write(rt, to, bytes) {
+        Ok(()) => status,
+        Err(error) => {
+            errors::fail(rt, b"emp: cannot write the answer", error);
+            Status::Complained
+        }
     }
-    os::fail(b"emp: cannot write the answer");
-    Status::Complained
+}
+
+fn write(rt: &(impl Print + Eprint), to: To, bytes: &[u8]) -> Result<()> {
+    match to {
+        To::Output => rt.write_all(bytes),
+        To::Errors => errors::put(rt, bytes),
+    }
 }
 
 // One line on standard error: the one half of a complaint with a text in it, and then the other with another.
-pub fn complain(row: usize, text: &[u8], other: &[u8]) -> Status {
+pub fn complain(rt: &(impl Print + Eprint), row: usize, text: &[u8], other: &[u8]) -> Status {
     let front = [0, SHOWN];
     put_by(
-        STDERR_FILENO,
+        rt,
+        To::Errors,
         Status::Complained,
         half_of(Manner::Words, row),
         &front,
         text,
     );
     put_by(
-        STDERR_FILENO,
+        rt,
+        To::Errors,
         Status::Complained,
         half_of(Manner::Plain, row),
         &front,
