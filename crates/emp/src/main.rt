@@ -22,7 +22,6 @@ use console::table::{piece, row};
 use envelope::Part;
 use golden::Name;
 use std::io::Input;
-use std::process::ExitCode;
 use std::rt::{Env, Files};
 use wording::arguments::{Given, NAMES, given_by};
 use wording::commands::{Asked, Command, command_of, manner_of_help, row_of, unknown_option};
@@ -31,8 +30,8 @@ use wording::telling::complain;
 use wording::{Manner, Status, commands, helping, rows, status};
 
 // One row for each command, in the order of the constants of `commands`: its form, what it does, and what it tells plainly.
-fn main(rt: HostRuntime) -> ExitCode {
-    status::tell(run(
+fn main(rt: HostRuntime) {
+    let status = run(
         &rt,
         b"list GOLDEN\tevery record: its type, number and length and whether it is retired, or its refusal\tgood RECORD TYPE NUMBER LENGTH, and the word retired behind these where it is, or refused RECORD REFUSAL READING PLACE FILE-PLACE
 check GOLDEN\tthe count of records, which are retired and whether they stand in ascending order of type, then number, or the first that is bad or is live and has the type and number of an earlier live one\tgood COUNT RETIRED, which is how many are retired, and then the number of each, with a second line, ascending or breaks RECORD; or else refused RECORD REFUSAL READING PLACE FILE-PLACE, and with 26 the EARLIER record behind these
@@ -52,7 +51,8 @@ send RESENDS\twhat becomes of each message sent, with so many resends each, 0 to
 help [COMMAND]\tthis, or what a command does\tthe form of each command
 ",
         b"--plain\n-q\n--help\n-h\n--version\n--\n--halving\n",
-    ))
+    );
+    status::tell(&rt, status);
 }
 
 fn run(
