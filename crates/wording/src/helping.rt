@@ -5,14 +5,12 @@ use crate::refusals::list_refusals;
 use crate::rows;
 use crate::status::Status;
 use crate::telling::{Manner, PAGE, put, tell};
-use console::files::{Content, take};
-use console::table::{between, piece, row};
-use std::io::Input;
+use console::table::{piece, row};
+use std::env::Env;
 use std::num::wrapping_add_usize;
-use std::rt::Files;
 
-// What the launcher holds open as descriptor 8: the name of the kit that proved the program.
-const KIT: &[u8] = b"/dev/fd/8";
+// The variable in which the launcher gives the name of the kit that proved the program.
+const KIT: &str = "EMP_KIT";
 
 // One command, by its row of the table: its form, what it does, and the lines that it tells plainly.
 pub fn help_for(rt: &(impl Print + Eprint), manner: Manner, line: &[u8], whole: bool) -> Status {
@@ -116,23 +114,24 @@ fn list_commands(rt: &(impl Print + Eprint), manner: Manner, commands: &[u8]) ->
 }
 
 // What the tool is, and by what it was proved.
-pub fn version(rt: &(impl Files + Input + Print + Eprint), manner: Manner) -> Status {
-    let mut kit = [0u8; PAGE];
-    let size = size_of(take(rt, KIT, &mut kit));
+pub fn version(rt: &(impl Env + Print + Eprint), manner: Manner) -> Status {
+    let mut room = [0u8; PAGE];
+    let kit = kit_in(rt, &mut room);
+    let size = kit.len();
     tell(
         rt,
         manner,
         Status::Done,
         rows::VERSION,
         &[(size != 0) as u64, 0, size as u64],
-        between(&kit, 0, size),
+        kit,
     )
 }
 
 // Nothing, where the kit is not known.
-fn size_of(content: Content) -> usize {
-    match content {
-        Content::Size(size) => size,
-        _ => 0,
+fn kit_in<'a>(rt: &impl Env, room: &'a mut [u8]) -> &'a [u8] {
+    match rt.var(KIT, room) {
+        Ok(size) => &room[..size],
+        Err(_) => &room[..0],
     }
 }

@@ -1,8 +1,9 @@
 // How a run of the tool ended.
-// Rests on std's files; the launcher makes it the exit status.
+// Rests on std's files and environment; the launcher makes it the exit status.
 use std::fs::OpenOptions;
 use std::io::{Result, Write};
-use std::rt::Files;
+use std::rt::{Env, Files};
+use std::str;
 
 #[derive(Clone, Copy)]
 pub enum Status {
@@ -21,17 +22,24 @@ impl Status {
     }
 }
 
-// What the launcher holds open as descriptor 9.
-const LAUNCHER: &str = "/dev/fd/9";
+// The variable in which the launcher names the file that takes the status, and the room for that name.
+const LAUNCHER: &str = "EMP_STATUS";
 
-// The status as a digit, where the launcher looks for it. With no launcher nothing is open there, and it is not told, which is harmless.
-pub fn tell(rt: &impl Files, status: Status) {
-    let _ = write(rt, status);
+const ROOM: usize = 4_096;
+
+// The status as a digit, where the launcher looks for it. With no launcher no file is named, and none is written to.
+pub fn tell(rt: &(impl Env + Files), status: Status) {
+    let mut room = [0u8; ROOM];
+    if let Ok(size) = rt.var(LAUNCHER, &mut room)
+        && let Ok(name) = str::from_utf8(&room[..size])
+    {
+        let _ = write(rt, name, status);
+    }
 }
 
-fn write(rt: &impl Files, status: Status) -> Result<()> {
-    let mut launcher = OpenOptions::new().write(true).open(rt, LAUNCHER)?;
-    launcher.write_all(&[digit(status)])
+fn write(rt: &impl Files, name: &str, status: Status) -> Result<()> {
+    let mut file = OpenOptions::new().write(true).open(rt, name)?;
+    file.write_all(&[digit(status)])
 }
 
 fn digit(status: Status) -> u8 {
