@@ -2,8 +2,6 @@
 // Every answer was worked out by a proved function; the gate holds what is printed to a stored file, and to what the peer prints.
 #![tactic(auto)]
 
-ghost use Rattle.std.specs.Prelude.{◌≤◌, IfOk, length};
-
 mod byte_words;
 mod changes;
 mod commands;
@@ -24,10 +22,11 @@ use crate::printing::remark;
 use crate::reader::MEMORY;
 use crate::sender_lines::PLACES;
 use crate::words::{between, place_of};
+use console::files::read_full;
 use exports::feeds::NUMBERS;
 use exports::senders::BESIDE;
 use std::io;
-use std::io::{Read, Write};
+use std::io::Write;
 
 // The most bytes that are read. The buffer has one more, so that a longer input is seen to be longer.
 const INPUT: usize = 262_144;
@@ -49,21 +48,6 @@ fn main(rt: HostRuntime) -> io::Result<()> {
         &mut waiting,
         &mut beside,
     )
-}
-
-// Reads until the buffer is full or the input ends: how many bytes.
-fn read_full(input: &mut impl Read, buffer: &mut [u8]) -> io::Result<usize>
-    ensures { IfOk result (λ size. size ≤ length buffer.new) }
-{
-    let mut size = 0;
-    while size < buffer.len() {
-        let taken = input.read(&mut buffer[size..])?;
-        if taken == 0 {
-            break;
-        }
-        size += taken;
-    }
-    Ok(size)
 }
 
 // Each turn takes a line feed, or is the last.

@@ -1,5 +1,7 @@
 // Files opened for reading only and taken whole, and standard input, which goes by the name of a hyphen.
 // Rests on the kit's `check`, on `folders`, and on std's files and readers.
+ghost use Rattle.std.specs.Prelude.{◌≤◌, IfOk, length};
+
 use crate::folders::is_there;
 use check::same;
 use std::io::{Error, ErrorKind, Input, Read, Result};
@@ -12,14 +14,6 @@ pub enum Content {
     // with the system's reason
     NotOpened(Error),
     NotRead(Error),
-}
-
-// One read: how many bytes there are now, or why there are no more.
-#[derive(Clone, Copy)]
-enum Turn {
-    Taken(usize),
-    End,
-    Failed(Error),
 }
 
 // The system's number for a file that is not there.
@@ -56,34 +50,24 @@ fn reason_of(there: Result<bool>) -> Error {
     }
 }
 
-// Each turn takes at least a byte, so as many turns as there is room are enough.
 fn fill(file: &mut impl Read, buffer: &mut [u8]) -> Content {
-    let mut turns = buffer.len();
-    let mut size = 0;
-    while turns > 0 {
-        match read_more(file, buffer, size) {
-            Turn::Taken(now) => {
-                size = now;
-            }
-            Turn::End => {
-                return Content::Size(size);
-            }
-            Turn::Failed(error) => {
-                return Content::NotRead(error);
-            }
-        }
-        turns -= 1;
+    match read_full(file, buffer) {
+        Ok(size) => Content::Size(size),
+        Err(error) => Content::NotRead(error),
     }
-    Content::Size(size)
 }
 
-fn read_more(file: &mut impl Read, buffer: &mut [u8], size: usize) -> Turn {
-    if buffer.len() <= size {
-        return Turn::End;
+// Reads until the buffer is full or the input ends: how many bytes.
+pub fn read_full(input: &mut impl Read, buffer: &mut [u8]) -> Result<usize>
+    ensures { IfOk result (λ size. size ≤ length buffer.new) }
+{
+    let mut size = 0;
+    while size < buffer.len() {
+        let taken = input.read(&mut buffer[size..])?;
+        if taken == 0 {
+            break;
+        }
+        size += taken;
     }
-    match file.read(&mut buffer[size..]) {
-        Ok(0) => Turn::End,
-        Ok(got) => Turn::Taken(size + got),
-        Err(error) => Turn::Failed(error),
-    }
+    Ok(size)
 }

@@ -1,11 +1,10 @@
 // Lists a golden file from standard input: the count, then a line for each record.
 #![tactic(auto)]
 
-ghost use Rattle.std.specs.Prelude.{◌≤◌, IfOk, length};
-
+use console::files::read_full;
 use golden::{Counting, Entry, Record, Refusal, count, entry_at};
 use std::io;
-use std::io::{Read, Write};
+use std::io::Write;
 
 // A byte more than the largest file, so that a longer input is refused and not cut short.
 const ROOM: usize = Record::LARGEST_FILE + 1;
@@ -14,21 +13,6 @@ fn main(rt: HostRuntime) -> io::Result<()> {
     let mut buffer = [0u8; ROOM];
     let size = read_full(&mut rt.stdin(), &mut buffer)?;
     list(&mut rt.stdout(), &buffer[..size])
-}
-
-// Reads until the buffer is full or the input ends: how many bytes.
-fn read_full(input: &mut impl Read, buffer: &mut [u8]) -> io::Result<usize>
-    ensures { IfOk result (λ size. size ≤ length buffer.new) }
-{
-    let mut size = 0;
-    while size < buffer.len() {
-        let taken = input.read(&mut buffer[size..])?;
-        if taken == 0 {
-            break;
-        }
-        size += taken;
-    }
-    Ok(size)
 }
 
 fn list(out: &mut impl Write, file: &[u8]) -> io::Result<()> {
