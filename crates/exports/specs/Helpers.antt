@@ -1,7 +1,10 @@
--- The meaning of this crate's private type, an addressing as seven numbers.
+-- The meaning of this crate's private type, an addressing as seven numbers, and the order of the verdicts.
 -- No promise of a public function cites it.
 use Rattle.exports.specs.Envelopes.{EndNumbers}
 use Rattle.exports.specs.declared.envelopes.Ends.{Ends}
+use Rattle.std.specs.Prelude.{List, [], ◌∷◌}
+use Rattle.judge.specs.declared.judging.Judging.{Judging}
+use Rattle.judge.specs.declared.judging.Verdict.{Verdict}
 
 abbrev pub told_ends : Ends → EndNumbers
 told_ends e =
@@ -14,3 +17,6 @@ told_ends e =
       destination_place = e.destination_place;
       destination_size = e.destination_size;
     }
+
+abbrev pub verdicts_in_order : Judging → List Verdict
+verdicts_in_order j = j.least ∷ j.version ∷ j.flags ∷ j.variable_size ∷ j.length ∷ j.addresses ∷ j.integrity ∷ []

@@ -1,6 +1,7 @@
 // The judge, for C: a verdict for each rule into a lent array, and the places of the broken ones into another.
 ghost use Rattle.std.specs.Prelude.{◌≡◌, ◌<◌, ◌^◌};
 ghost use Rattle.judge.specs.Told.{told_verdict, told_judging, told_lowest};
+ghost use Rattle.exports.specs.Helpers.{verdicts_in_order};
 ghost use Rattle.exports.specs.Verdicts.{verdict_number, verdict_numbers, place_number, place_numbers, lowest_slots, JudgesForC, verdict_lent, JudgesPlacesForC};
 ghost use Rattle.exports.specs.Word.{word};
 
@@ -48,22 +49,7 @@ fn lowest_word(lowest: Lowest) -> u64
 fn verdict_numbers(judging: Judging) -> [u8; RULES]
     ensures { result ≡ verdict_numbers (told_judging judging) }
 {
-    let least = judging.least;
-    let version = judging.version;
-    let flags = judging.flags;
-    let variable_size = judging.variable_size;
-    let length = judging.length;
-    let addresses = judging.addresses;
-    let integrity = judging.integrity;
-    [
-        verdict_number(least),
-        verdict_number(version),
-        verdict_number(flags),
-        verdict_number(variable_size),
-        verdict_number(length),
-        verdict_number(addresses),
-        verdict_number(integrity),
-    ]
+    in_order(judging).map(verdict_number)
 }
 
 fn verdict_number(verdict: Verdict) -> u8
@@ -79,21 +65,21 @@ fn verdict_number(verdict: Verdict) -> u8
 fn place_numbers(judging: Judging) -> [u64; RULES]
     ensures { result ≡ place_numbers (told_judging judging) }
 {
-    let least = judging.least;
-    let version = judging.version;
-    let flags = judging.flags;
-    let variable_size = judging.variable_size;
-    let length = judging.length;
-    let addresses = judging.addresses;
-    let integrity = judging.integrity;
+    in_order(judging).map(place_number)
+}
+
+// The verdicts in the order of the rules.
+fn in_order(judging: Judging) -> [Verdict; RULES]
+    ensures { result ≡ verdicts_in_order judging }
+{
     [
-        place_number(least),
-        place_number(version),
-        place_number(flags),
-        place_number(variable_size),
-        place_number(length),
-        place_number(addresses),
-        place_number(integrity),
+        judging.least,
+        judging.version,
+        judging.flags,
+        judging.variable_size,
+        judging.length,
+        judging.addresses,
+        judging.integrity,
     ]
 }
 
