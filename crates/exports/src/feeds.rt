@@ -63,19 +63,13 @@ pub fn morlewen_feed_message(kept: &[u8; Feed::ROOM], numbers: &[u64; NUMBERS]) 
 fn standing_of(number: u64, count: usize) -> Standing
     ensures { told_standing result ≡ standing_for number count }
 {
-    if number == 0 {
-        return Standing::Inside;
+    match number {
+        0 => Standing::Inside,
+        1..=7 => Standing::Refused(Refusal::MessageRefused(refusal_of(number, count))),
+        51 => Standing::Refused(Refusal::TooLong),
+        52 => Standing::Refused(Refusal::Cut),
+        _ => Standing::Whole,
     }
-    if number < 8 {
-        return Standing::Refused(Refusal::MessageRefused(refusal_of(number, count)));
-    }
-    if number == 51 {
-        return Standing::Refused(Refusal::TooLong);
-    }
-    if number == 52 {
-        return Standing::Refused(Refusal::Cut);
-    }
-    Standing::Whole
 }
 
 // The refusal of reading that has this number, where so many bytes are in: the place is not stored.
@@ -93,10 +87,7 @@ fn refusal_of(number: u64, count: usize) -> envelope::Refusal
 fn in_room(count: usize) -> usize
     ensures { result ≡ in_room count }
 {
-    if Feed::ROOM < count {
-        return Feed::ROOM;
-    }
-    count
+    count.min(Feed::ROOM)
 }
 
 // The place of a refusal with this number, in a message of so many bytes.
@@ -104,35 +95,22 @@ fn place_of(number: u64, size: usize) -> usize
     requires { (0 < number) × (number < 8) }
     ensures { result ≡ place_for number size }
 {
-    if number < 2 {
-        return size;
+    match number {
+        1 => size,
+        2 => Envelope::VERSION_PLACE,
+        3 => Envelope::FLAGS_PLACE,
+        4 => Envelope::VARIABLE_SIZE_PLACE,
+        5 => Envelope::DATA_LENGTH_PLACE,
+        6 => Envelope::ADDRESSES_PLACE,
+        _ => before_field(size),
     }
-    if number < 3 {
-        return Envelope::VERSION_PLACE;
-    }
-    if number < 4 {
-        return Envelope::FLAGS_PLACE;
-    }
-    if number < 5 {
-        return Envelope::VARIABLE_SIZE_PLACE;
-    }
-    if number < 6 {
-        return Envelope::DATA_LENGTH_PLACE;
-    }
-    if number < 7 {
-        return Envelope::ADDRESSES_PLACE;
-    }
-    before_field(size)
 }
 
 // The last four bytes are the integrity field.
 fn before_field(size: usize) -> usize
     ensures { result ≡ size - field_size }
 {
-    if size < Envelope::FIELD_SIZE {
-        return 0;
-    }
-    size - Envelope::FIELD_SIZE
+    size.saturating_sub(Envelope::FIELD_SIZE)
 }
 
 // The rule of reading that has this number.
@@ -140,25 +118,15 @@ fn fault_of(number: u64) -> envelope::Fault
     requires { (0 < number) × (number < 8) }
     ensures { told_fault result ≡ number }
 {
-    if number < 2 {
-        return envelope::Fault::TooShort;
+    match number {
+        1 => envelope::Fault::TooShort,
+        2 => envelope::Fault::WrongVersion,
+        3 => envelope::Fault::BadFlags,
+        4 => envelope::Fault::BadVariableSize,
+        5 => envelope::Fault::WrongLength,
+        6 => envelope::Fault::BadAddresses,
+        _ => envelope::Fault::BadIntegrity,
     }
-    if number < 3 {
-        return envelope::Fault::WrongVersion;
-    }
-    if number < 4 {
-        return envelope::Fault::BadFlags;
-    }
-    if number < 5 {
-        return envelope::Fault::BadVariableSize;
-    }
-    if number < 6 {
-        return envelope::Fault::WrongLength;
-    }
-    if number < 7 {
-        return envelope::Fault::BadAddresses;
-    }
-    envelope::Fault::BadIntegrity
 }
 
 fn standing_number(standing: Standing) -> u64

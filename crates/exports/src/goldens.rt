@@ -8,7 +8,7 @@ ghost use Rattle.golden.specs.Making.{told_making};
 ghost use Rattle.golden.specs.Ordering.{told_ordering};
 ghost use Rattle.golden.specs.Retiring.{told_retiring};
 ghost use Rattle.golden.specs.Stepping.{told_reached};
-ghost use Rattle.exports.specs.Goldens.{name_for, count_slots, CountsForC, CountsRetiredForC, check_slots, ChecksForC, find_slots, FindsForC, HalvesForC, order_slots, OrdersForC, mark_of, line_slots, line_after, EntersForC, step_slots, part_after, StepsForC, compare_slots, ComparesForC, make_slots, MakesForC, retire_slots, RetiresForC};
+ghost use Rattle.exports.specs.Goldens.{name_for, count_slots, CountsForC, CountsRetiredForC, check_slots, ChecksForC, find_slots, FindsForC, HalvesForC, order_slots, OrdersForC, line_slots, line_after, EntersForC, step_slots, part_after, StepsForC, compare_slots, ComparesForC, make_slots, MakesForC, retire_slots, RetiresForC};
 ghost use Rattle.exports.specs.Word.{word};
 
 use crate::answers::{answer, refused_answer};
@@ -153,7 +153,7 @@ fn line_word(found: Entry) -> u64
             number: _,
             size: _,
             retired,
-        } => answer(0, mark_of(retired), 0, 0),
+        } => answer(0, u8::from(retired), 0, 0),
         Entry::Refused(refusal) => refused_answer(refusal.numbers(), 0),
     }
 }
@@ -179,7 +179,7 @@ fn step_word(reached: Reached, on: usize) -> u64
     ensures { result ≡ word (step_slots (told_reached reached) on) }
 {
     match reached {
-        Reached::Message { part, retired } => answer(0, mark_of(retired), on, part.size),
+        Reached::Message { part, retired } => answer(0, u8::from(retired), on, part.size),
         Reached::Refused(refusal) => refused_answer(refusal.numbers(), on),
         Reached::End => answer(0, 0, on, 0),
     }
@@ -229,13 +229,4 @@ fn retire_word(retiring: Retiring) -> u64
         Retiring::Done => answer(0, 0, 0, 0),
         Retiring::Refused(refusal) => refused_answer(refusal.numbers(), 0),
     }
-}
-
-fn mark_of(retired: bool) -> u8
-    ensures { result ≡ mark_of retired }
-{
-    if retired {
-        return 1;
-    }
-    0
 }
