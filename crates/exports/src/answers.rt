@@ -26,5 +26,5 @@ pub(crate) fn reading_answer(refusal: Refusal) -> u64
     requires { refusal.place < 2 ^ 32 }
     ensures { result ≡ word (reading_slots (told_refusal refusal)) }
 {
-    refused_answer(Numbers::by_reading(refusal), 0)
+    refused_answer(Numbers::from(refusal), 0)
 }

@@ -9,7 +9,7 @@ ghost use Rattle.exports.specs.Word.{word};
 
 use crate::answers::{answer, reading_answer};
 use envelope::{
-    Addressing, Envelope, Header, Integrity, Reading, Rewriting, Routing, WriteFault, Writing,
+    Addressing, Envelope, Given, Header, Integrity, Refusal, RewriteFault, Routing, WriteFault,
     read, rewrite, write,
 };
 
@@ -60,16 +60,15 @@ pub fn morlewen_write(
         number,
         time,
     };
-    let routing = routing_of(addressed, ttl, qos);
-    write_word(write(
+    let given = Given {
         header,
-        routing,
+        routing: routing_of(addressed, ttl, qos),
         source,
         destination,
         body,
-        integrity,
-        buffer,
-    ))
+        application: integrity,
+    };
+    write_word(write(given, buffer))
 }
 
 pub fn morlewen_rewrite(bytes: &[u8], buffer: &mut [u8]) -> u64
@@ -78,24 +77,21 @@ pub fn morlewen_rewrite(bytes: &[u8], buffer: &mut [u8]) -> u64
     rewrite_word(rewrite(bytes, buffer))
 }
 
-fn read_word(reading: Reading) -> u64
+fn read_word(reading: Result<Envelope, Refusal>) -> u64
     requires { (read_slots (told reading)).value < 2 ^ 32 }
     ensures { result ≡ word (read_slots (told reading)) }
 {
     match reading {
-        Reading::Accepted(_) => answer(0, 0, 0, 0),
-        Reading::Refused(refusal) => reading_answer(refusal),
+        Ok(_) => answer(0, 0, 0, 0),
+        Err(refusal) => reading_answer(refusal),
     }
 }
 
-fn put_fields(reading: Reading, fields: &mut [u64; FIELDS])
+fn put_fields(reading: Result<Envelope, Refusal>, fields: &mut [u64; FIELDS])
     ensures { fields.new ≡ fields_after (told reading) fields.old }
 {
-    match reading {
-        Reading::Accepted(accepted) => {
-            *fields = numbers_of(accepted);
-        }
-        Reading::Refused(_) => {}
+    if let Ok(accepted) = reading {
+        *fields = numbers_of(accepted);
     }
 }
 
@@ -127,11 +123,11 @@ pub(crate) fn numbers_of(accepted: Envelope) -> [u64; FIELDS]
     ]
 }
 
-fn ends_of(addressing: Addressing) -> Ends
+fn ends_of(addressing: Option<Addressing>) -> Ends
     ensures { told_ends result ≡ end_numbers (told_addressing addressing) }
 {
     match addressing {
-        Addressing::Absent => Ends {
+        None => Ends {
             addressed: 0,
             ttl: 0,
             qos: 0,
@@ -140,19 +136,14 @@ fn ends_of(addressing: Addressing) -> Ends
             destination_place: 0,
             destination_size: 0,
         },
-        Addressing::Present {
-            ttl,
-            qos,
-            source,
-            destination,
-        } => Ends {
+        Some(present) => Ends {
             addressed: 1,
-            ttl: ttl as u64,
-            qos: qos as u64,
-            source_place: source.place as u64,
-            source_size: source.size as u64,
-            destination_place: destination.place as u64,
-            destination_size: destination.size as u64,
+            ttl: u64::from(present.ttl),
+            qos: u64::from(present.qos),
+            source_place: present.source.place as u64,
+            source_size: present.source.size as u64,
+            destination_place: present.destination.place as u64,
+            destination_size: present.destination.size as u64,
         },
     }
 }
@@ -177,32 +168,32 @@ fn held_by(integrity: Integrity) -> u64
     }
 }
 
-fn routing_of(addressed: u8, ttl: u16, qos: u16) -> Routing
+fn routing_of(addressed: u8, ttl: u16, qos: u16) -> Option<Routing>
     ensures { told_routing result ≡ routing_for addressed ttl qos }
 {
     if addressed == 0 {
-        return Routing::Absent;
+        return None;
     }
-    Routing::Present { ttl, qos }
+    Some(Routing { ttl, qos })
 }
 
-fn write_word(writing: Writing) -> u64
+fn write_word(writing: Result<usize, WriteFault>) -> u64
     requires { (write_slots (told_writing writing)).value < 2 ^ 32 }
     ensures { result ≡ word (write_slots (told_writing writing)) }
 {
     match writing {
-        Writing::Written(size) => answer(0, 0, 0, size),
-        Writing::Refused(fault) => answer(fault.number(), 0, 0, 0),
+        Ok(size) => answer(0, 0, 0, size),
+        Err(fault) => answer(u8::from(fault), 0, 0, 0),
     }
 }
 
-fn rewrite_word(rewriting: Rewriting) -> u64
+fn rewrite_word(rewriting: Result<usize, RewriteFault>) -> u64
     requires { (rewrite_slots (told_rewriting rewriting)).value < 2 ^ 32 }
     ensures { result ≡ word (rewrite_slots (told_rewriting rewriting)) }
 {
     match rewriting {
-        Rewriting::Written(size) => answer(0, 0, 0, size),
-        Rewriting::Refused(refusal) => reading_answer(refusal),
-        Rewriting::NoRoom => answer(WriteFault::NoRoom.number(), 0, 0, 0),
+        Ok(size) => answer(0, 0, 0, size),
+        Err(RewriteFault::Refused(refusal)) => reading_answer(refusal),
+        Err(RewriteFault::NoRoom) => answer(u8::from(WriteFault::NoRoom), 0, 0, 0),
     }
 }

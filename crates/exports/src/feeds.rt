@@ -11,8 +11,8 @@ ghost use Rattle.exports.specs.Word.{word};
 
 use crate::answers::{answer, refused_answer};
 use crate::envelopes::{FIELDS, numbers_of};
-use envelope::Envelope;
-use feed::{Feed, Found, Refusal, Standing, advance, close, held};
+use envelope::{Envelope, Numbers};
+use feed::{Beside, Feed, Message, Refusal, Standing, advance, close, held};
 
 // How many numbers stand beside the bytes that a feed keeps.
 pub const NUMBERS: usize = 2;
@@ -25,24 +25,18 @@ pub fn morlewen_feed_take(
 ) -> u64
     ensures { TakesForC (lent kept.old numbers.old fields.old) piece.now result (lent kept.new numbers.new fields.new) }
 {
-    let count = numbers[0] as usize;
-    let step = advance(kept, count, standing_of(numbers[1], count), piece);
-    let standing = step.standing;
-    let found = step.found;
-    *numbers = [step.count as u64, standing_number(standing)];
-    put_found(found, fields);
-    found_word(found, step.used)
+    let step = advance(kept, beside_in(numbers), piece);
+    *numbers = beside_numbers(step.beside);
+    put_found(step.found, fields);
+    found_word(step.found, step.used)
 }
 
 pub fn morlewen_feed_end(numbers: &mut [u64; NUMBERS]) -> u64
     ensures { EndsForC numbers.old result numbers.new }
 {
-    let count = numbers[0] as usize;
-    let step = close(count, standing_of(numbers[1], count));
-    let standing = step.standing;
-    let found = step.found;
-    *numbers = [step.count as u64, standing_number(standing)];
-    found_word(found, 0)
+    let step = close(beside_in(numbers));
+    *numbers = beside_numbers(step.beside);
+    found_word(step.found, 0)
 }
 
 pub fn morlewen_feed_restart(kept: &mut [u8; Feed::ROOM], numbers: &mut [u64; NUMBERS])
@@ -55,9 +49,7 @@ pub fn morlewen_feed_restart(kept: &mut [u8; Feed::ROOM], numbers: &mut [u64; NU
 pub fn morlewen_feed_message(kept: &[u8; Feed::ROOM], numbers: &[u64; NUMBERS]) -> u64
     ensures { HoldsForC kept.now numbers.now result }
 {
-    let count = numbers[0] as usize;
-    let message = held(kept, count, standing_of(numbers[1], count));
-    answer(0, 0, 0, message.len())
+    answer(0, 0, 0, held(kept, beside_in(numbers)).len())
 }
 
 fn standing_of(number: u64, count: usize) -> Standing
@@ -135,32 +127,25 @@ fn standing_number(standing: Standing) -> u64
     match standing {
         Standing::Inside => 0,
         Standing::Whole => 255,
-        Standing::Refused(refusal) => {
-            let numbers = refusal.numbers();
-            numbers.number as u64
-        }
+        Standing::Refused(refusal) => u64::from(Numbers::from(refusal).number),
     }
 }
 
-fn found_word(found: Found, used: usize) -> u64
+fn found_word(found: Result<Option<Message>, Refusal>, used: usize) -> u64
     requires { (used < 2 ^ 16) × ((found_slots (told_found found) used).value < 2 ^ 32) }
     ensures { result ≡ word (found_slots (told_found found) used) }
 {
     match found {
-        Found::Nothing => answer(0, 0, used, 0),
-        Found::Message { size, envelope: _ } => answer(0, 0, used, size),
-        Found::Refused(refusal) => refused_answer(refusal.numbers(), used),
+        Ok(None) => answer(0, 0, used, 0),
+        Ok(Some(message)) => answer(0, 0, used, message.size),
+        Err(refusal) => refused_answer(Numbers::from(refusal), used),
     }
 }
 
-fn put_found(found: Found, fields: &mut [u64; FIELDS])
+fn put_found(found: Result<Option<Message>, Refusal>, fields: &mut [u64; FIELDS])
     ensures { fields.new ≡ fields_found (told_found found) fields.old }
 {
-    match found {
-        Found::Message { size: _, envelope } => {
-            *fields = numbers_of(envelope);
-        }
-        Found::Nothing => {}
-        Found::Refused(_) => {}
+    if let Ok(Some(message)) = found {
+        *fields = numbers_of(message.envelope);
     }
 }

@@ -8,8 +8,8 @@ ghost use Rattle.exports.specs.Word.{word};
 
 use crate::answers::{answer, refused_answer};
 use crate::envelopes::{FIELDS, numbers_of};
-use frame::layout::{TYPE_ACKNOWLEDGMENT, TYPE_DATA};
-use frame::{Unwrapped, Wrapped, acknowledge, first, unwrap, wrap};
+use envelope::Numbers;
+use frame::{FrameType, Refusal, Unwrapped, acknowledge, first, unwrap, wrap};
 
 // A frame's own COMMID, and the acknowledged one.
 pub const COMMIDS: usize = 2;
@@ -45,53 +45,47 @@ pub fn morlewen_frame_first(capture: &[u8]) -> usize
     first(capture)
 }
 
-fn put_commids(unwrapped: Unwrapped, commids: &mut [u32; COMMIDS])
+fn put_commids(unwrapped: Result<Unwrapped, Refusal>, commids: &mut [u32; COMMIDS])
     ensures { commids.new ≡ commids_after (told_unwrapped unwrapped) commids.old }
 {
     match unwrapped {
-        Unwrapped::Data(data) => {
+        Ok(Unwrapped::Data(data)) => {
             *commids = [data.commid, 0];
         }
-        Unwrapped::Acknowledged(acknowledgment) => {
+        Ok(Unwrapped::Acknowledged(acknowledgment)) => {
             *commids = [acknowledgment.commid, acknowledgment.acknowledged];
         }
-        Unwrapped::Refused(_) => {}
+        Err(_) => {}
     }
 }
 
-fn put_message(unwrapped: Unwrapped, fields: &mut [u64; FIELDS])
+fn put_message(unwrapped: Result<Unwrapped, Refusal>, fields: &mut [u64; FIELDS])
     ensures { fields.new ≡ message_fields (told_unwrapped unwrapped) fields.old }
 {
-    match unwrapped {
-        Unwrapped::Data(data) => {
-            let envelope = data.envelope;
-            *fields = numbers_of(envelope);
-        }
-        Unwrapped::Acknowledged(_) => {}
-        Unwrapped::Refused(_) => {}
+    if let Ok(Unwrapped::Data(data)) = unwrapped {
+        *fields = numbers_of(data.envelope);
     }
 }
 
-fn unwrap_word(unwrapped: Unwrapped) -> u64
+fn unwrap_word(unwrapped: Result<Unwrapped, Refusal>) -> u64
     requires { (unwrap_slots (told_unwrapped unwrapped)).value < 2 ^ 32 }
     ensures { result ≡ word (unwrap_slots (told_unwrapped unwrapped)) }
 {
     match unwrapped {
-        Unwrapped::Data(data) => {
-            let message = data.message;
-            answer(0, 0, TYPE_DATA as usize, message.size)
+        Ok(Unwrapped::Data(data)) => {
+            answer(0, 0, type_number(FrameType::Data), data.message.size)
         }
-        Unwrapped::Acknowledged(_) => answer(0, 0, TYPE_ACKNOWLEDGMENT as usize, 0),
-        Unwrapped::Refused(refusal) => refused_answer(refusal.numbers(), 0),
+        Ok(Unwrapped::Acknowledged(_)) => answer(0, 0, type_number(FrameType::Acknowledgment), 0),
+        Err(refusal) => refused_answer(Numbers::from(refusal), 0),
     }
 }
 
-fn wrap_word(wrapped: Wrapped) -> u64
+fn wrap_word(wrapped: Result<usize, Refusal>) -> u64
     requires { (wrap_slots (told_wrapped wrapped)).value < 2 ^ 32 }
     ensures { result ≡ word (wrap_slots (told_wrapped wrapped)) }
 {
     match wrapped {
-        Wrapped::Written(size) => answer(0, 0, 0, size),
-        Wrapped::Refused(refusal) => refused_answer(refusal.numbers(), 0),
+        Ok(size) => answer(0, 0, 0, size),
+        Err(refusal) => refused_answer(Numbers::from(refusal), 0),
     }
 }

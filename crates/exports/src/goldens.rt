@@ -12,10 +12,10 @@ ghost use Rattle.exports.specs.Goldens.{name_for, count_slots, CountsForC, Count
 ghost use Rattle.exports.specs.Word.{word};
 
 use crate::answers::{answer, refused_answer};
+use envelope::Numbers;
 use golden::{
-    Checking, Comparison, Counting, Entry, Finding, Making, Name, Ordering, Reached, Retiring,
-    ascending, check, compare, count, count_retired, entry_at, find, find_by_halving, make, retire,
-    step,
+    Entry, Found, Name, Refusal, RefusedAfter, RefusedAt, Stored, ascending, check, compare, count,
+    count_retired, entry_at, find, find_by_halving, make, retire, step,
 };
 
 // How many numbers a line of the listing is, and a part of the file.
@@ -102,131 +102,114 @@ pub fn morlewen_retire(file: &[u8], record: usize, buffer: &mut [u8]) -> u64
     retire_word(retire(file, record, buffer))
 }
 
-fn count_word(counting: Counting) -> u64
+fn count_word(counting: Result<usize, Refusal>) -> u64
     requires { ((count_slots (told_counting counting)).count < 2 ^ 16) × ((count_slots (told_counting counting)).value < 2 ^ 32) }
     ensures { result ≡ word (count_slots (told_counting counting)) }
 {
     match counting {
-        Counting::Count(records) => answer(0, 0, records, 0),
-        Counting::Refused(refusal) => refused_answer(refusal.numbers(), 0),
+        Ok(records) => answer(0, 0, records, 0),
+        Err(refusal) => refused_answer(Numbers::from(refusal), 0),
     }
 }
 
-fn check_word(checking: Checking) -> u64
+fn check_word(checking: Result<usize, RefusedAt>) -> u64
     requires { ((check_slots (told_checking checking)).count < 2 ^ 16) × ((check_slots (told_checking checking)).value < 2 ^ 32) }
     ensures { result ≡ word (check_slots (told_checking checking)) }
 {
     match checking {
-        Checking::Count(records) => answer(0, 0, records, 0),
-        Checking::Refused { record, refusal } => refused_answer(refusal.numbers(), record),
+        Ok(records) => answer(0, 0, records, 0),
+        Err(RefusedAt { record, refusal }) => refused_answer(Numbers::from(refusal), record),
     }
 }
 
-fn find_word(finding: Finding) -> u64
+fn find_word(finding: Result<Found, RefusedAfter>) -> u64
     requires { ((find_slots (told_finding finding)).count < 2 ^ 16) × ((find_slots (told_finding finding)).value < 2 ^ 32) }
     ensures { result ≡ word (find_slots (told_finding finding)) }
 {
     match finding {
-        Finding::Found { record, opened } => answer(0, 0, opened, record),
-        Finding::Refused { refusal, opened } => refused_answer(refusal.numbers(), opened),
+        Ok(Found { record, opened }) => answer(0, 0, opened, record),
+        Err(RefusedAfter { refusal, opened }) => refused_answer(Numbers::from(refusal), opened),
     }
 }
 
-fn order_word(ordering: Ordering) -> u64
+fn order_word(ordering: Result<Option<usize>, RefusedAt>) -> u64
     requires { ((order_slots (told_ordering ordering)).count < 2 ^ 16) × ((order_slots (told_ordering ordering)).value < 2 ^ 32) }
     ensures { result ≡ word (order_slots (told_ordering ordering)) }
 {
     match ordering {
-        Ordering::Ascends => answer(0, 0, 0, 1),
-        Ordering::Breaks(record) => answer(0, 0, record, 0),
-        Ordering::Refused { record, refusal } => refused_answer(refusal.numbers(), record),
+        Ok(None) => answer(0, 0, 0, 1),
+        Ok(Some(record)) => answer(0, 0, record, 0),
+        Err(RefusedAt { record, refusal }) => refused_answer(Numbers::from(refusal), record),
     }
 }
 
-fn line_word(found: Entry) -> u64
+fn line_word(found: Result<Entry, Refusal>) -> u64
     requires { (line_slots (told_entry found)).value < 2 ^ 32 }
     ensures { result ≡ word (line_slots (told_entry found)) }
 {
     match found {
-        Entry::Good {
-            message_type: _,
-            number: _,
-            size: _,
-            retired,
-        } => answer(0, u8::from(retired), 0, 0),
-        Entry::Refused(refusal) => refused_answer(refusal.numbers(), 0),
+        Ok(entry) => answer(0, u8::from(entry.retired), 0, 0),
+        Err(refusal) => refused_answer(Numbers::from(refusal), 0),
     }
 }
 
-fn put_line(found: Entry, line: &mut [u64; LINE])
+fn put_line(found: Result<Entry, Refusal>, line: &mut [u64; LINE])
     ensures { line.new ≡ line_after (told_entry found) line.old }
 {
-    match found {
-        Entry::Good {
-            message_type,
-            number,
-            size,
-            retired: _,
-        } => {
-            *line = [message_type as u64, number as u64, size as u64];
-        }
-        Entry::Refused(_) => {}
+    if let Ok(entry) = found {
+        *line = [
+            u64::from(entry.name.message_type),
+            u64::from(entry.name.number),
+            entry.size as u64,
+        ];
     }
 }
 
-fn step_word(reached: Reached, on: usize) -> u64
+fn step_word(reached: Result<Option<Stored>, Refusal>, on: usize) -> u64
     requires { (on < 2 ^ 16) × ((step_slots (told_reached reached) on).value < 2 ^ 32) }
     ensures { result ≡ word (step_slots (told_reached reached) on) }
 {
     match reached {
-        Reached::Message { part, retired } => answer(0, u8::from(retired), on, part.size),
-        Reached::Refused(refusal) => refused_answer(refusal.numbers(), on),
-        Reached::End => answer(0, 0, on, 0),
+        Ok(Some(stored)) => answer(0, u8::from(stored.retired), on, stored.part.size),
+        Ok(None) => answer(0, 0, on, 0),
+        Err(refusal) => refused_answer(Numbers::from(refusal), on),
     }
 }
 
-fn put_part(reached: Reached, part: &mut [u64; PART])
+fn put_part(reached: Result<Option<Stored>, Refusal>, part: &mut [u64; PART])
     ensures { part.new ≡ part_after (told_reached reached) part.old }
 {
-    match reached {
-        Reached::Message {
-            part: message,
-            retired: _,
-        } => {
-            *part = [message.place as u64, message.size as u64];
-        }
-        Reached::Refused(_) => {}
-        Reached::End => {}
+    if let Ok(Some(stored)) = reached {
+        *part = [stored.part.place as u64, stored.part.size as u64];
     }
 }
 
-fn compare_word(comparison: Comparison) -> u64
+fn compare_word(comparison: Result<usize, Refusal>) -> u64
     requires { (compare_slots (told_comparison comparison)).value < 2 ^ 32 }
     ensures { result ≡ word (compare_slots (told_comparison comparison)) }
 {
     match comparison {
-        Comparison::Same => answer(0, 0, 0, 0),
-        Comparison::Different(total) => answer(0, 0, 0, total),
-        Comparison::Refused(refusal) => refused_answer(refusal.numbers(), 0),
+        Ok(differing) => answer(0, 0, 0, differing),
+        Err(refusal) => refused_answer(Numbers::from(refusal), 0),
     }
 }
 
-fn make_word(making: Making) -> u64
+fn make_word(making: Result<(), Refusal>) -> u64
     requires { (make_slots (told_making making)).value < 2 ^ 32 }
     ensures { result ≡ word (make_slots (told_making making)) }
 {
     match making {
-        Making::Made => answer(0, 0, 0, 0),
-        Making::Refused(refusal) => refused_answer(refusal.numbers(), 0),
+        Ok(()) => answer(0, 0, 0, 0),
+        Err(refusal) => refused_answer(Numbers::from(refusal), 0),
     }
 }
 
-fn retire_word(retiring: Retiring) -> u64
+fn retire_word(retiring: Result<(), Refusal>) -> u64
     requires { (retire_slots (told_retiring retiring)).value < 2 ^ 32 }
     ensures { result ≡ word (retire_slots (told_retiring retiring)) }
 {
     match retiring {
-        Retiring::Done => answer(0, 0, 0, 0),
-        Retiring::Refused(refusal) => refused_answer(refusal.numbers(), 0),
+        Ok(()) => answer(0, 0, 0, 0),
+        Err(refusal) => refused_answer(Numbers::from(refusal), 0),
     }
 }

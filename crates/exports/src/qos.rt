@@ -6,7 +6,7 @@ ghost use Rattle.exports.specs.Word.{word};
 
 use crate::answers::answer;
 use envelope::qos;
-use envelope::qos::{Joining, Qos};
+use envelope::qos::Qos;
 
 // How many numbers a QoS field is.
 pub const QOS_PARTS: usize = 5;
@@ -42,11 +42,11 @@ pub fn morlewen_qos_join(
     }))
 }
 
-fn join_word(joining: Joining) -> u64
+fn join_word(joining: Option<u16>) -> u64
     ensures { result ≡ word (join_slots (told_joining joining)) }
 {
     match joining {
-        Joining::Joined(field) => answer(0, 0, 0, field as usize),
-        Joining::DoesNotFit => answer(41, 0, 0, 0),
+        Some(field) => answer(0, 0, 0, field as usize),
+        None => answer(41, 0, 0, 0),
     }
 }

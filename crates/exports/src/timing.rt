@@ -32,18 +32,18 @@ pub fn morlewen_sequence(old: u32, new: u32) -> u64
 }
 
 // Only the TTL matters to lateness.
-fn addressing_of(addressed: u8, ttl: u16) -> Addressing
+fn addressing_of(addressed: u8, ttl: u16) -> Option<Addressing>
     ensures { told_addressing result ≡ addressing_for addressed ttl }
 {
     if addressed == 0 {
-        return Addressing::Absent;
+        return None;
     }
-    Addressing::Present {
+    Some(Addressing {
         ttl,
         qos: 0,
         source: nowhere(),
         destination: nowhere(),
-    }
+    })
 }
 
 // Lateness does not look at the header.

@@ -6,7 +6,8 @@ ghost use Rattle.exports.specs.Verdicts.{verdict_number, verdict_numbers, place_
 ghost use Rattle.exports.specs.Word.{word};
 
 use crate::answers::answer;
-use judge::{Judging, Lowest, Verdict, judge};
+use envelope::Refusal;
+use judge::{Judging, Verdict, judge};
 
 // How many rules reading has.
 pub const RULES: usize = 7;
@@ -33,16 +34,13 @@ pub fn morlewen_judge_places(
 }
 
 // A number in the first slot would be a refusal, and a judge refuses nothing.
-fn lowest_word(lowest: Lowest) -> u64
+fn lowest_word(lowest: Option<Refusal>) -> u64
     requires { (lowest_slots (told_lowest lowest)).value < 2 ^ 32 }
     ensures { result ≡ word (lowest_slots (told_lowest lowest)) }
 {
     match lowest {
-        Lowest::NoneBroken => answer(0, 0, 0, 0),
-        Lowest::Rule(refusal) => {
-            let fault = refusal.fault;
-            answer(0, fault.number(), 0, refusal.place)
-        }
+        None => answer(0, 0, 0, 0),
+        Some(refusal) => answer(0, u8::from(refusal.fault), 0, refusal.place),
     }
 }
 
