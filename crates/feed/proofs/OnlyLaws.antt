@@ -3,6 +3,7 @@
 use mathlib.Core.List.{List, []}
 use mathlib.Core.Path.{◌≡◌, refl, ap, sym, ◌∙◌}
 use Prim.Native.Nat.{ℕ}
+use Rattle.std.specs.Prelude.{Option, Some, None, Result, Ok, Err}
 use Rattle.envelope.proofs.OnlyLaws.{only_by_telling, untold_refusal, untold_refusal_lem, only_told_numbers, untold_envelope, untold_envelope_lem}
 use Rattle.envelope.specs.Promise.{Only₁, Only₂}
 use Rattle.feed.specs.Feeding.{Stand, inside, whole, refused, State, fresh, Finding, nothing, message, FeedOutcome, taking, ending}
@@ -13,8 +14,7 @@ use Rattle.feed.specs.declared.refusal.Refusal.TheVariants.{MessageRefused, TooL
 use Rattle.feed.specs.declared.feeder.Ended.{Ended}
 use Rattle.feed.specs.declared.feeder.Feed.{Feed}
 use Rattle.feed.specs.declared.feeder.Taken.{Taken}
-use Rattle.feed.specs.declared.step.Found.{Found}
-use Rattle.feed.specs.declared.step.Found.TheVariants.{Nothing, Message, Refused as FoundRefused}
+use Rattle.feed.specs.declared.step.Message.{Message}
 use Rattle.feed.specs.declared.step.Standing.{Standing}
 use Rattle.feed.specs.declared.step.Standing.TheVariants.{Inside, Whole, Refused}
 use Rattle.feed.specs.declared.step.Step.{Step}
@@ -45,15 +45,15 @@ untold_feed s = record { kept = s.kept; count = s.count; standing = untold_stand
 pub untold_feed_lem : (f : Feed) → untold_feed (told_feed f) ≡ f
 untold_feed_lem f = λ i. record { kept = f.kept; count = f.count; standing = untold_standing_lem f.standing i }
 
-abbrev pub untold_found : Finding → Found
-untold_found nothing = Nothing
-untold_found (message n f) = Message n (untold_envelope f)
-untold_found (refused f) = FoundRefused (untold_feed_refusal f)
+abbrev pub untold_found : Finding → Result (Option Message) CodeRefusal
+untold_found nothing = Ok None
+untold_found (message n f) = Ok (Some (record { size = n; envelope = untold_envelope f }))
+untold_found (refused f) = Err (untold_feed_refusal f)
 
-pub untold_found_lem : (f : Found) → untold_found (told_found f) ≡ f
-untold_found_lem Nothing = refl
-untold_found_lem (Message n e) = ap (Message n) (untold_envelope_lem e)
-untold_found_lem (FoundRefused f) = ap FoundRefused (untold_feed_refusal_lem f)
+pub untold_found_lem : (f : Result (Option Message) CodeRefusal) → untold_found (told_found f) ≡ f
+untold_found_lem (Ok None) = refl
+untold_found_lem (Ok (Some m)) = λ i. Ok (Some (record { size = m.size; envelope = untold_envelope_lem m.envelope i }))
+untold_found_lem (Err f) = ap Err (untold_feed_refusal_lem f)
 
 abbrev untold_taken : FeedOutcome → Taken
 untold_taken o = record { feed = untold_feed o.state; used = o.used; found = untold_found o.finding }

@@ -1,6 +1,6 @@
 -- The paper's number and values for each case of the code's types, and what each public function promises.
 -- Each promise fixes the answer and the later state whole.
-use Rattle.std.specs.Prelude.{ℕ, List, ◌≡◌}
+use Rattle.std.specs.Prelude.{ℕ, List, Option, Some, None, Result, Ok, Err, ◌≡◌}
 use Rattle.envelope.specs.Refusals.{told_numbers}
 use Rattle.envelope.specs.Told.{told_refusal, told_envelope}
 use Rattle.envelope.specs.declared.refusals.Numbers.{Numbers}
@@ -11,8 +11,7 @@ use Rattle.feed.specs.declared.refusal.Refusal.TheVariants.{MessageRefused, TooL
 use Rattle.feed.specs.declared.feeder.Ended.{Ended}
 use Rattle.feed.specs.declared.feeder.Feed.{Feed}
 use Rattle.feed.specs.declared.feeder.Taken.{Taken}
-use Rattle.feed.specs.declared.step.Found.{Found}
-use Rattle.feed.specs.declared.step.Found.TheVariants.{Nothing, Message, Refused as FoundRefused}
+use Rattle.feed.specs.declared.step.Message.{Message}
 use Rattle.feed.specs.declared.step.Standing.{Standing}
 use Rattle.feed.specs.declared.step.Standing.TheVariants.{Inside, Whole, Refused}
 use Rattle.feed.specs.declared.step.Step.{Step}
@@ -34,10 +33,10 @@ state_of kept count standing = record { kept = kept; count = count; stand = told
 abbrev pub told_feed : Feed → State
 told_feed f = state_of f.kept f.count f.standing
 
-abbrev pub told_found : Found → Finding
-told_found Nothing = nothing
-told_found (Message size e) = message size (told_envelope e)
-told_found (FoundRefused f) = refused (told_feed_refusal f)
+abbrev pub told_found : Result (Option Message) CodeRefusal → Finding
+told_found (Ok None) = nothing
+told_found (Ok (Some m)) = message m.size (told_envelope m.envelope)
+told_found (Err f) = refused (told_feed_refusal f)
 
 -- beside the bytes kept as they are then
 abbrev pub told_step : Step → List ℕ → FeedOutcome

@@ -4,7 +4,8 @@ ghost use Rattle.feed.specs.Told.{Fresh, Takes, Ends};
 
 use crate::advancer::advance;
 use crate::closer::close;
-use crate::step::{Found, Standing};
+use crate::refusal::Refusal;
+use crate::step::{Message, Standing};
 
 // The first `count` of the bytes kept are those of the message that is on its way, or was found, or was refused.
 #[derive(Clone, Copy)]
@@ -18,13 +19,13 @@ pub struct Feed {
 pub struct Taken {
     pub feed: Feed,
     pub used: usize,
-    pub found: Found,
+    pub found: Result<Option<Message>, Refusal>,
 }
 
 #[derive(Clone, Copy)]
 pub struct Ended {
     pub feed: Feed,
-    pub found: Found,
+    pub found: Result<Option<Message>, Refusal>,
 }
 
 impl Feed {

@@ -7,7 +7,7 @@ ghost use Rattle.feed.specs.Told.{told_step};
 ghost use Rattle.feed.specs.Verdict.{room, settled};
 
 use crate::refusal::Refusal;
-use crate::step::{Found, Standing, Step, refuse, wait};
+use crate::step::{Message, Standing, Step, refuse, wait};
 use envelope::{Reading, read};
 
 // The heading has passed, and announced a whole of so many bytes.
@@ -43,10 +43,10 @@ fn finish(message: &[u8], used: usize) -> Step
             count: message.len(),
             standing: Standing::Whole,
             used,
-            found: Found::Message {
+            found: Ok(Some(Message {
                 size: message.len(),
                 envelope,
-            },
+            })),
         },
         Reading::Refused(refusal) => refuse(message.len(), used, Refusal::MessageRefused(refusal)),
     }

@@ -17,12 +17,11 @@ pub enum Standing {
     Refused(Refusal),
 }
 
+// A whole message. Its bytes stay with the feed until the next byte, and what `read` hands out of them comes along.
 #[derive(Clone, Copy)]
-pub enum Found {
-    Nothing,
-    // A whole message. Its bytes stay with the feed until the next byte, and what `read` hands out of them comes along.
-    Message { size: usize, envelope: Envelope },
-    Refused(Refusal),
+pub struct Message {
+    pub size: usize,
+    pub envelope: Envelope,
 }
 
 // What a call leaves beside the bytes kept, how many bytes it used, and what it found.
@@ -31,7 +30,7 @@ pub struct Step {
     pub count: usize,
     pub standing: Standing,
     pub used: usize,
-    pub found: Found,
+    pub found: Result<Option<Message>, Refusal>,
 }
 
 // Nothing is used, and a refusal that stands is repeated.
@@ -45,7 +44,7 @@ pub(crate) fn stay(count: usize, standing: Standing) -> Step
             count,
             standing: Standing::Whole,
             used: 0,
-            found: Found::Nothing,
+            found: Ok(None),
         },
     }
 }
@@ -58,7 +57,7 @@ pub(crate) fn wait(count: usize, used: usize) -> Step
         count,
         standing: Standing::Inside,
         used,
-        found: Found::Nothing,
+        found: Ok(None),
     }
 }
 
@@ -70,6 +69,6 @@ pub(crate) fn refuse(count: usize, used: usize, refusal: Refusal) -> Step
         count,
         standing: Standing::Refused(refusal),
         used,
-        found: Found::Refused(refusal),
+        found: Err(refusal),
     }
 }
