@@ -49,7 +49,7 @@ told_taken t = record { state = told_feed t.feed; used = t.used; finding = told_
 abbrev pub told_ended : Ended → FeedOutcome
 told_ended e = record { state = told_feed e.feed; used = 0; finding = told_found e.found }
 
--- what `Refusal::numbers` promises
+-- what `From<Refusal> for Numbers` gives
 abbrev pub NumbersFeedRefusal : CodeRefusal → Numbers → Type 0
 NumbersFeedRefusal f r = told_numbers r ≡ feed_numbers (told_feed_refusal f)
 
