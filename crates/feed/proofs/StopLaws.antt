@@ -62,13 +62,13 @@ pub refusal_is_kept : RefusalIsKept
 refusal_is_kept f fault piece t p e =
     let stands : Stands (told_taken t) (told_feed_refusal fault) =
     subst (λ (o : FeedOutcome). Stands o (told_feed_refusal fault)) (sym p) (taking_stands piece (told_feed f) (told_feed_refusal fault)) in
-    sym (untold_standing_lem t.feed.standing) ∙ ap untold_standing (stands (ap told_found e)) ∙ ap Refused (untold_feed_refusal_lem fault)
+    sym (untold_standing_lem t.feed.beside.standing) ∙ ap untold_standing (stands (ap told_found e)) ∙ ap Refused (untold_feed_refusal_lem fault)
 
 pub end_is_kept : EndIsKept
 end_is_kept f fault t p e =
     let stands : Stands (told_ended t) (told_feed_refusal fault) =
     subst (λ (o : FeedOutcome). Stands o (told_feed_refusal fault)) (sym p) (ending_stands (told_feed f) (told_feed_refusal fault)) in
-    sym (untold_standing_lem t.feed.standing) ∙ ap untold_standing (stands (ap told_found e)) ∙ ap Refused (untold_feed_refusal_lem fault)
+    sym (untold_standing_lem t.feed.beside.standing) ∙ ap untold_standing (stands (ap told_found e)) ∙ ap Refused (untold_feed_refusal_lem fault)
 
 -- ---- and one that stands was told
 
@@ -99,10 +99,10 @@ refusal_is_told f fault piece t p e =
 
 pub refusal_stands : RefusalStands
 refusal_stands f fault piece t e r p q =
-    let stands : told_standing f.standing ≡ refused (told_feed_refusal fault) = ap told_standing r in
+    let stands : told_standing f.beside.standing ≡ refused (told_feed_refusal fault) = ap told_standing r in
     let repeated = still_as (told_feed f) (refused (told_feed_refusal fault)) stands in (
       only_takes f piece t (record { feed = f; used = 0; found = Err fault }) p (sym repeated ∙ refused_takes (told_feed f) (told_feed_refusal fault) piece stands),
-      only_ends f e (record { feed = f; found = Err fault }) q (sym repeated ∙ sym (end_none (told_feed f) (ap (λ (t : Stand). begun_by t f.count) stands))),
+      only_ends f e (record { feed = f; found = Err fault }) q (sym repeated ∙ sym (end_none (told_feed f) (ap (λ (t : Stand). begun_by t f.beside.count) stands))),
     )
 
 pub restart_is_new : RestartIsNew
@@ -123,5 +123,5 @@ ends_between f e p w = only_ends f e (record { feed = f; found = Ok None }) p (s
 
 pub ends_inside : EndInside
 ends_inside f e p h =
-    only_ends f e (record { feed = record { kept = f.kept; count = f.count; standing = Refused Cut }; found = Err Cut }) p
+    only_ends f e (record { feed = record { kept = f.kept; beside = record { count = f.beside.count; standing = Refused Cut } }; found = Err Cut }) p
     (sym (end_some (told_feed f) (λ z. absurd (omega arith))))

@@ -4,10 +4,8 @@ use Rattle.std.specs.Prelude.{ℕ, ◌+◌, ◌≤◌, ◌<◌, Bool, true, fals
 use Rattle.std.proofs.lemmas.List.Edits.{sets}
 use Rattle.envelope.specs.Announcing.{announces, announcing}
 use Rattle.envelope.specs.Layout.{header_size}
-use Rattle.feed.specs.Feeding.{Stand, inside, whole, refused, State, Finding, FeedOutcome, stand_by, finding_by, closing, standing, further_by, taking}
-use Rattle.feed.specs.Told.{told_standing, told_found}
-use Rattle.feed.specs.Verdict.{room, Verdict, verdict}
-use Rattle.feed.specs.declared.step.Step.{Step}
+use Rattle.feed.specs.Feeding.{Stand, inside, whole, refused, State, FeedOutcome, closing, further_by, taking}
+use Rattle.feed.specs.Verdict.{room, verdict}
 
 abbrev pub opened : List ℕ → ℕ → State
 opened kept n = record { kept = kept; count = n; stand = inside }
@@ -44,23 +42,3 @@ pub record Announced (kept : List ℕ) (count whole used : ℕ) : Type 0 where
   pub little : used ≤ room
   pub says : announcing (take count kept) ≡ announces whole
   pub short : whole ≤ room
-
--- an outcome without the bytes kept: what the functions tell that only read them
-pub record Beside : Type 0 where
-  pub count : ℕ
-  pub stand : Stand
-  pub used : ℕ
-  pub finding : Finding
-
-abbrev pub told_beside : Step → Beside
-told_beside r = record { count = r.count; stand = told_standing r.standing; used = r.used; finding = told_found r.found }
-
-abbrev pub beside : Verdict → ℕ → ℕ → Beside
-beside v n used = record { count = n; stand = stand_by v; used = used; finding = finding_by v n }
-
--- nothing is used, and a refusal that stands is repeated
-abbrev pub still_beside : ℕ → Stand → Beside
-still_beside n t = record { count = n; stand = t; used = 0; finding = standing t }
-
-abbrev pub outcome_of : List ℕ → Beside → FeedOutcome
-outcome_of kept b = record { state = record { kept = kept; count = b.count; stand = b.stand }; used = b.used; finding = b.finding }

@@ -1,62 +1,28 @@
 // A piece goes in: the work of a feed, where the bytes kept are lent and nothing is copied but the piece.
 // It goes in bulk, to the 17th byte and then to the announced length; byte by byte it would come to the same.
 ghost use Rattle.std.specs.Prelude.{◌≡◌, ◌<◌, length};
-ghost use Rattle.feed.specs.Feeding.{inside, begun_by, taking};
-ghost use Rattle.feed.specs.Helpers.{opened, goes_on, Expected, Stretch};
+ghost use Rattle.feed.specs.Feeding.{taking};
+ghost use Rattle.feed.specs.Helpers.{opened, Expected, Stretch};
 ghost use Rattle.feed.specs.Messages.{Few};
 ghost use Rattle.feed.specs.Places.{PointsShort};
-ghost use Rattle.feed.specs.Told.{told_standing, state_of, told_step, Advances};
+ghost use Rattle.feed.specs.Told.{state_of, told_step, Advances};
 ghost use Rattle.feed.specs.Verdict.{room};
 
 use crate::feeder::Feed;
 use crate::filler::{fill, lay};
 use crate::refusal::Refusal;
-use crate::step::{Standing, Step, refuse, stay, wait};
+use crate::step::{Beside, Step, refuse, wait};
 use envelope::{Announcement, Envelope, announce};
 
-// `Feed::take` where the feed is lent in parts: the bytes kept, how many of them are in, and what stands.
+// `Feed::take` where the feed is lent in parts: the bytes kept, and what stands beside them.
 // What follows for a caller is said too: no call uses more bytes than the longest message has or finds a longer one, nor, where the count tells the place of what stands, points past it.
-pub fn advance(kept: &mut [u8; Feed::ROOM], count: usize, standing: Standing, piece: &[u8]) -> Step
-    ensures { Advances kept.old count standing piece.now result kept.new × Few (told_step result kept.new) × PointsShort (state_of kept.old count standing) (told_step result kept.new) }
+pub fn advance(kept: &mut [u8; Feed::ROOM], beside: Beside, piece: &[u8]) -> Step
+    ensures { Advances kept.old beside piece.now result kept.new × Few (told_step result kept.new) × PointsShort (state_of kept.old beside) (told_step result kept.new) }
 {
-    if piece.len() == 0 {
-        return stay(count, standing);
+    if piece.is_empty() || !beside.goes_on() {
+        return beside.stay();
     }
-    if !goes_on(standing) {
-        return stay(count, standing);
-    }
-    grow(kept, begun(count, standing), piece)
-}
-
-// Whether the next byte goes in: unless a refusal stands.
-fn goes_on(standing: Standing) -> bool
-    ensures { result ≡ goes_on (told_standing standing) }
-{
-    match standing {
-        Standing::Inside => true,
-        Standing::Whole => true,
-        Standing::Refused(_) => false,
-    }
-}
-
-// How many bytes of the next message are in. A count that no feed has counts as none.
-pub(crate) fn begun(count: usize, standing: Standing) -> usize
-    ensures { (result ≡ begun_by (told_standing standing) count) × (result < room) }
-{
-    match standing {
-        Standing::Inside => below_room(count),
-        Standing::Whole => 0,
-        Standing::Refused(_) => 0,
-    }
-}
-
-fn below_room(count: usize) -> usize
-    ensures { (result ≡ begun_by inside count) × (result < room) }
-{
-    if count < Feed::ROOM {
-        return count;
-    }
-    0
+    grow(kept, beside.begun(), piece)
 }
 
 // Past the heading, the bytes up to the announced length.

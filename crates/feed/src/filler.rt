@@ -1,13 +1,14 @@
 // From the heading to the announced length: bytes go in, and when all are in, reading judges them.
 // Once for each message, so that whoever is handed a message need not read it again.
-ghost use Rattle.std.specs.Prelude.{◌≡◌, ◌+◌, ◌-◌, ◌≤◌, length};
+ghost use Rattle.std.specs.Prelude.{ℕ, List, ◌≡◌, ◌+◌, ◌-◌, ◌≤◌, length};
 ghost use Rattle.envelope.specs.Reading.{reading};
-ghost use Rattle.feed.specs.Helpers.{laid_in, outcome_at, Announced, told_beside, beside};
+ghost use Rattle.feed.specs.Feeding.{closing};
+ghost use Rattle.feed.specs.Helpers.{laid_in, outcome_at, Announced};
 ghost use Rattle.feed.specs.Told.{told_step};
 ghost use Rattle.feed.specs.Verdict.{room, settled};
 
 use crate::refusal::Refusal;
-use crate::step::{Message, Standing, Step, refuse, wait};
+use crate::step::{Beside, Message, Standing, Step, refuse, wait};
 use envelope::{Reading, read};
 
 // The heading has passed, and announced a whole of so many bytes.
@@ -36,12 +37,14 @@ fn due(count: usize, whole: usize) -> usize
 
 // All that was announced is in.
 fn finish(message: &[u8], used: usize) -> Step
-    ensures { told_beside result ≡ beside (settled (reading message.now)) (length message.now) used }
+    ensures { (kept : List ℕ) → told_step result kept ≡ closing (settled (reading message.now)) kept (length message.now) used }
 {
     match read(message) {
         Reading::Accepted(envelope) => Step {
-            count: message.len(),
-            standing: Standing::Whole,
+            beside: Beside {
+                count: message.len(),
+                standing: Standing::Whole,
+            },
             used,
             found: Ok(Some(Message {
                 size: message.len(),

@@ -9,7 +9,7 @@ use Rattle.envelope.proofs.AnnouncingLaws.{unfinished_short}
 use Rattle.envelope.specs.Announcing.{announcing, told_announcement}
 use Rattle.envelope.specs.declared.announcer.Announcement.{Announcement}
 use Rattle.feed.specs.Feeding.{taking}
-use Rattle.feed.specs.Helpers.{opened, outcome_at, outcome_of}
+use Rattle.feed.specs.Helpers.{opened, outcome_at}
 use Rattle.feed.specs.Verdict.{room, too_long}
 use Rattle.feed.proofs.BulkLaws.{bad_at, more_at, stretch_fits, first_stretch, none_left}
 use Rattle.feed.proofs.VerdictLaws.{verdict_by, verdict_heading, verdict_too_long}
@@ -58,7 +58,7 @@ slice_bounds-announce-end-2 c = sym (length-take-le _ _ (enough (goal.at.slice_b
 pub returns-then-whole-gt-ROOM : goal.returns-then-whole-gt-ROOM
 returns-then-whole-gt-ROOM c =
     let at = goal.at.returns-then-whole-gt-ROOM c in
-    ap (outcome_of c.lay.new.kept) c.refuse-then-whole-gt-ROOM.ensures
+    c.refuse-then-whole-gt-ROOM.ensures c.lay.new.kept
     ∙ bad_at c.lay.new.kept _ _ _ too_long (verdict_too_long _ c.in-Length.whole (says at.After-announce _ c.in-Length.is) c.if-whole-gt-ROOM.true)
     ∙ sym (grown at.After-lay)
 
@@ -74,14 +74,14 @@ returns-in-Unfinished c =
     let unfinished = says at.After-announce _ c.in-Unfinished.is in
     let few = unfinished_short _ unfinished in
     let size = length-take-le (c.args.count + c.stretch-first.result) c.lay.new.kept (enough at.After-lay) in
-    ap (outcome_of c.lay.new.kept) c.wait.ensures
+    c.wait.ensures c.lay.new.kept
     ∙ more_at c.lay.new.kept _ _ _ (verdict_by _ _ unfinished) (none_left _ _ _ c.stretch-first.ensures (omega (arith, few, size)))
     ∙ sym (grown at.After-lay)
 
 pub returns-in-Refused : goal.returns-in-Refused
 returns-in-Refused c =
     let at = goal.at.returns-in-Refused c in
-    ap (outcome_of c.lay.new.kept) c.refuse.ensures
+    c.refuse.ensures c.lay.new.kept
     ∙ bad_at c.lay.new.kept _ _ _ _ (verdict_heading _ _ (says at.After-announce _ c.in-Refused.is))
     ∙ sym (grown at.After-lay)
 

@@ -7,7 +7,6 @@ use lib.ListN.{length, take}
 use lib.Seq.{length-take-le, length-sets}
 use Rattle.envelope.specs.Reading.{reading}
 use Rattle.feed.specs.Feeding.{closing}
-use Rattle.feed.specs.Helpers.{outcome_of}
 use Rattle.feed.specs.Verdict.{more, settled}
 use Rattle.feed.proofs.BulkLaws.{known, fill_short, fill_all}
 use Rattle.feed.proofs.TakingLaws.{Known}
@@ -40,7 +39,7 @@ lay-requires c = (c.requires.0, omega (arith, c.requires.1.short, c.if-rest-want
 
 pub returns-then-rest-wanted : goal.returns-then-rest-wanted
 returns-then-rest-wanted c =
-    ap (outcome_of c.lay.new.kept) c.wait.ensures
+    c.wait.ensures c.lay.new.kept
     ∙ ap (λ (g : List ℕ). closing more g (c.args.count + length c.args.rest.now) (c.args.used + length c.args.rest.now)) c.lay.ensures
     ∙ fill_short c.args.kept.now c.args.rest.now c.args.count c.args.whole c.args.used (known_at (goal.at.returns-then-rest-wanted c).Start) c.requires.1.short (omega (arith, c.if-rest-wanted.true, c.due-wanted.ensures))
 
@@ -60,7 +59,7 @@ slice_bounds-finish-end-2 c = sym (all_in (goal.at.slice_bounds-finish-end-2 c).
 pub returns : goal.returns
 returns c =
     let d = c.due-wanted.result in
-    ap (outcome_of c.lay-2.new.kept) c.finish.ensures
+    c.finish.ensures c.lay-2.new.kept
     ∙ ap (λ (m : ℕ). closing (settled (reading (take (c.args.count + d) c.lay-2.new.kept))) c.lay-2.new.kept m (c.args.used + d)) (all_in (goal.at.returns c).After-lay-2)
     ∙ ap (λ (g : List ℕ). closing (settled (reading (take (c.args.count + d) g))) g (c.args.count + d) (c.args.used + d)) c.lay-2.ensures
     ∙ fill_all c.args.kept.now c.args.rest.now c.args.count c.args.whole d c.args.used (known_at (goal.at.returns c).Start) c.requires.1.short (omega (arith, c.requires.0, c.requires.1.fits)) c.due-wanted.ensures (omega arith)
