@@ -2,7 +2,7 @@
 // It goes in bulk, to the 17th byte and then to the announced length; byte by byte it would come to the same.
 ghost use Rattle.std.specs.Prelude.{◌≡◌, ◌<◌, length};
 ghost use Rattle.feed.specs.Feeding.{taking};
-ghost use Rattle.feed.specs.Helpers.{opened, Expected, Stretch};
+ghost use Rattle.feed.specs.Helpers.{opened, Heading, Stretch};
 ghost use Rattle.feed.specs.Messages.{Few};
 ghost use Rattle.feed.specs.Places.{PointsShort};
 ghost use Rattle.feed.specs.Told.{state_of, told_step, Advances};
@@ -11,7 +11,7 @@ ghost use Rattle.feed.specs.Verdict.{room};
 use crate::feeder::Feed;
 use crate::filler::{fill, lay};
 use crate::refusal::Refusal;
-use crate::step::{Beside, Step, refuse, wait};
+use crate::step::{Beside, Step};
 use envelope::{Announcement, Envelope, announce};
 
 // `Feed::take` where the feed is lent in parts: the bytes kept, and what stands beside them.
@@ -26,54 +26,40 @@ pub fn advance(kept: &mut [u8; Feed::ROOM], beside: Beside, piece: &[u8]) -> Ste
 }
 
 // Past the heading, the bytes up to the announced length.
-fn grow(kept: &mut [u8], count: usize, piece: &[u8]) -> Step
-    requires { (length kept.old ≡ room) × (count < room) × (0 < length piece.now) }
+fn grow(kept: &mut [u8; Feed::ROOM], count: usize, piece: &[u8]) -> Step
+    requires { (count < room) × (0 < length piece.now) }
     ensures { told_step result kept.new ≡ taking (opened kept.old count) piece.now }
 {
-    let expected = expects(kept, count);
-    if count < expected {
-        return fill(kept, count, expected, 0, piece);
+    match announced(&kept[..count]) {
+        Ok(Some(whole)) if count < whole => fill(kept, count, whole, 0, piece),
+        _ => through_heading(kept, count, piece),
     }
-    through_heading(kept, count, piece)
 }
 
 // The bytes up to the 17th, or one byte, and then those up to the announced length.
-fn through_heading(kept: &mut [u8], count: usize, piece: &[u8]) -> Step
-    requires { (length kept.old ≡ room) × (count < room) × (0 < length piece.now) }
+fn through_heading(kept: &mut [u8; Feed::ROOM], count: usize, piece: &[u8]) -> Step
+    requires { (count < room) × (0 < length piece.now) }
     ensures { told_step result kept.new ≡ taking (opened kept.old count) piece.now }
 {
     let first = stretch(count, piece.len());
     lay(kept, count, &piece[..first]);
     let in_all = count + first;
-    match announce(&kept[..in_all]) {
-        Announcement::Unfinished => wait(in_all, first),
-        Announcement::Refused(refusal) => refuse(in_all, first, Refusal::MessageRefused(refusal)),
-        Announcement::Length(whole) => {
-            if Feed::ROOM < whole {
-                return refuse(in_all, first, Refusal::TooLong);
-            }
-            fill(kept, in_all, whole, first, &piece[first..])
-        }
+    match announced(&kept[..in_all]) {
+        Ok(Some(whole)) => fill(kept, in_all, whole, first, &piece[first..]),
+        Ok(None) => Step::settled(in_all, first, Ok(None)),
+        Err(refusal) => Step::settled(in_all, first, Err(refusal)),
     }
 }
 
-// The announced length of a message that is on its way past its heading, as long as it has room. Otherwise 0.
-fn expects(kept: &[u8], count: usize) -> usize
-    requires { (length kept.now ≡ room) × (count < room) }
-    ensures { Expected kept.now count result }
+// The length that the bytes of a message announce, none while fewer than a header has are in. One over the room is refused.
+fn announced(message: &[u8]) -> Result<Option<usize>, Refusal>
+    ensures { Heading message.now result }
 {
-    if count < Envelope::HEADER_SIZE {
-        return 0;
-    }
-    match announce(&kept[..count]) {
-        Announcement::Length(whole) => {
-            if whole <= Feed::ROOM {
-                return whole;
-            }
-            0
-        }
-        Announcement::Unfinished => 0,
-        Announcement::Refused(_) => 0,
+    match announce(message) {
+        Announcement::Unfinished => Ok(None),
+        Announcement::Refused(refusal) => Err(Refusal::MessageRefused(refusal)),
+        Announcement::Length(whole) if whole <= Feed::ROOM => Ok(Some(whole)),
+        Announcement::Length(_) => Err(Refusal::TooLong),
     }
 }
 
@@ -83,11 +69,7 @@ fn stretch(count: usize, offered: usize) -> usize
     requires { 0 < offered }
     ensures { Stretch count offered result }
 {
-    if Envelope::HEADER_SIZE <= count {
-        return 1;
-    }
-    if offered <= Envelope::HEADER_SIZE - count {
-        return offered;
-    }
-    Envelope::HEADER_SIZE - count
+    Envelope::HEADER_SIZE
+        .saturating_sub(count)
+        .clamp(1, offered)
 }

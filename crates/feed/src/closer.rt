@@ -3,7 +3,7 @@
 ghost use Rattle.feed.specs.Told.{Closes};
 
 use crate::refusal::Refusal;
-use crate::step::{Beside, Step, refuse};
+use crate::step::{Beside, Step};
 
 // `Feed::end` where the feed is lent in parts.
 pub fn close(beside: Beside) -> Step
@@ -12,5 +12,5 @@ pub fn close(beside: Beside) -> Step
     if beside.begun() == 0 {
         return beside.stay();
     }
-    refuse(beside.count, 0, Refusal::Cut)
+    Step::settled(beside.count, 0, Err(Refusal::Cut))
 }

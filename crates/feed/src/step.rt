@@ -2,9 +2,9 @@
 // The steps that more than one function takes are made here.
 ghost use Rattle.std.specs.Prelude.{ℕ, List, ◌≡◌, ◌<◌};
 ghost use Rattle.feed.specs.Feeding.{begun_by, closing, still};
-ghost use Rattle.feed.specs.Helpers.{goes_on};
-ghost use Rattle.feed.specs.Told.{told_feed_refusal, told_standing, state_of, told_step};
-ghost use Rattle.feed.specs.Verdict.{room, more, refused};
+ghost use Rattle.feed.specs.Helpers.{goes_on, told_verdict};
+ghost use Rattle.feed.specs.Told.{told_standing, state_of, told_step};
+ghost use Rattle.feed.specs.Verdict.{room};
 
 use crate::feeder::Feed;
 use crate::refusal::Refusal;
@@ -74,30 +74,27 @@ impl Beside {
     }
 }
 
-// More is to come.
-pub(crate) fn wait(count: usize, used: usize) -> Step
-    ensures { (kept : List ℕ) → told_step result kept ≡ closing more kept count used }
-{
-    Step {
-        beside: Beside {
-            count,
-            standing: Standing::Inside,
-        },
-        used,
-        found: Ok(None),
-    }
-}
-
-// A refusal is found, and stands.
-pub(crate) fn refuse(count: usize, used: usize, refusal: Refusal) -> Step
-    ensures { (kept : List ℕ) → told_step result kept ≡ closing (refused (told_feed_refusal refusal)) kept count used }
-{
-    Step {
-        beside: Beside {
-            count,
-            standing: Standing::Refused(refusal),
-        },
-        used,
-        found: Err(refusal),
+impl Step {
+    // So many bytes are in, and so many of the piece were used: nothing is settled yet, a message is whole, or it is refused.
+    pub(crate) fn settled(
+        count: usize,
+        used: usize,
+        verdict: Result<Option<Envelope>, Refusal>,
+    ) -> Step
+        ensures { (kept : List ℕ) → told_step result kept ≡ closing (told_verdict verdict) kept count used }
+    {
+        let standing = match verdict {
+            Ok(None) => Standing::Inside,
+            Ok(Some(_)) => Standing::Whole,
+            Err(refusal) => Standing::Refused(refusal),
+        };
+        Step {
+            beside: Beside { count, standing },
+            used,
+            found: verdict.map(|whole| whole.map(|envelope| Message {
+                size: count,
+                envelope,
+            })),
+        }
     }
 }

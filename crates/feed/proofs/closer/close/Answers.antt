@@ -10,4 +10,4 @@ returns-then-begun-eq0 c = λ kept.
 
 pub returns : goal.returns
 returns c = λ kept.
-    c.refuse.ensures kept ∙ sym (end_some (state_of kept c.args.beside) (λ z. c.if-begun-eq0.false (c.begun.ensures.0 ∙ z)))
+    c.settled.ensures kept ∙ sym (end_some (state_of kept c.args.beside) (λ z. c.if-begun-eq0.false (c.begun.ensures.0 ∙ z)))
