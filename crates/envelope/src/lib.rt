@@ -20,5 +20,5 @@ pub use crate::announcer::{Announcement, announce};
 pub use crate::fields::{Addressing, Envelope, Header, Integrity, Part};
 pub use crate::reader::{Fault, Reading, Refusal, read};
 pub use crate::refusals::Numbers;
-pub use crate::rewriter::{Rewriting, rewrite};
-pub use crate::writer::{Routing, WriteFault, Writing, write};
+pub use crate::rewriter::{RewriteFault, rewrite};
+pub use crate::writer::{Given, Routing, WriteFault, write};
