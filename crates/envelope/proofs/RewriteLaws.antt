@@ -1,6 +1,6 @@
 -- Rewriting: what is lent to `write` is what reading handed out, and so the outcome is the bytes themselves or 15.
 -- Rests on the second round trip.
-use Rattle.std.proofs.Common.{◌≡◌, ℕ, ◌≤◌, Bool, true, false, cond, ltb, List, [], length, sym, refl, ap, ◌∙◌, subst, arith}
+use Rattle.std.proofs.Common.{◌≡◌, ℕ, ◌≤◌, Bool, true, false, cond, ltb, List, [], length, Some, None, sym, refl, ap, ◌∙◌, subst, arith}
 use Rattle.sum.specs.Detection.{Bytes}
 use Rattle.envelope.specs.Fields.{Fields, Answer, accepted, part_of}
 use Rattle.envelope.specs.Fields as fields
@@ -12,9 +12,8 @@ use Rattle.envelope.specs.RoundTrips.{application_number, given_by}
 use Rattle.envelope.specs.Told.{told_part, told_integrity, told_envelope}
 use Rattle.envelope.specs.Writing.{WriteOutcome, written, refused, writing, after_writing, wrote, answer_to_writing, given, Writes}
 use Rattle.envelope.specs.Writing as write
-use Rattle.envelope.specs.declared.fields.Addressing.TheVariants.{Absent, Present}
+use Rattle.envelope.specs.declared.fields.Addressing.{Addressing}
 use Rattle.envelope.specs.declared.fields.Envelope.{Envelope}
-use Rattle.envelope.specs.declared.fields.Part.{Part}
 use Rattle.envelope.specs.declared.writer.Routing.TheVariants as routing
 use Rattle.envelope.specs.declared.writer.Writing.{Writing}
 use Rattle.envelope.proofs.PlaceLaws.{places_within}
@@ -23,16 +22,16 @@ use Rattle.envelope.proofs.RoundTripLaws.{written_again}
 
 -- ---- what is lent is what was handed out
 
-pub again_absent : (s : List ℕ) (e : Envelope) (body : List ℕ) (n : ℕ) → e.addressing ≡ Absent
+pub again_absent : (s : List ℕ) (e : Envelope) (body : List ℕ) (n : ℕ) → e.addressing ≡ None
     → body ≡ part_of s (told_part e.body) → n ≡ application_number (told_integrity e.integrity)
     → given e.header routing.Absent [] [] body n ≡ given_by s (told_envelope e)
 again_absent s e body n ea eb en = rw (ea, eb, en)
 
-pub again_present : (s : List ℕ) (e : Envelope) (ttl qos : ℕ) (p q : Part) (source destination body : List ℕ) (n : ℕ)
-    → e.addressing ≡ Present ttl qos p q → source ≡ part_of s (told_part p) → destination ≡ part_of s (told_part q)
+pub again_present : (s : List ℕ) (e : Envelope) (a : Addressing) (source destination body : List ℕ) (n : ℕ)
+    → e.addressing ≡ Some a → source ≡ part_of s (told_part a.source) → destination ≡ part_of s (told_part a.destination)
     → body ≡ part_of s (told_part e.body) → n ≡ application_number (told_integrity e.integrity)
-    → given e.header (routing.Present ttl qos) source destination body n ≡ given_by s (told_envelope e)
-again_present s e ttl qos p q source destination body n ea es ed eb en = rw (ea, es, ed, eb, en)
+    → given e.header (routing.Present a.ttl a.qos) source destination body n ≡ given_by s (told_envelope e)
+again_present s e a source destination body n ea es ed eb en = rw (ea, es, ed, eb, en)
 
 -- the same given: the same promise
 pub writes_same : (g h : Given) (entry exit : List ℕ) (r : Writing) → g ≡ h → Writes g entry r exit → Writes h entry r exit

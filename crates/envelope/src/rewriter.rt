@@ -5,8 +5,8 @@ ghost use Rattle.envelope.specs.RoundTrips.{application_number};
 ghost use Rattle.envelope.specs.Rewriting.{Rewrites};
 ghost use Rattle.envelope.specs.Told.{told_integrity};
 
-use crate::fields::{Addressing, Envelope, Integrity};
-use crate::reader::{Reading, Refusal, read};
+use crate::fields::{Envelope, Integrity};
+use crate::reader::{Refusal, read};
 use crate::writer::{Routing, Writing, write};
 
 #[derive(Clone, Copy)]
@@ -20,8 +20,8 @@ pub fn rewrite(bytes: &[u8], buffer: &mut [u8]) -> Rewriting
     ensures { Rewrites bytes.now buffer.old result buffer.new }
 {
     match read(bytes) {
-        Reading::Refused(refusal) => Rewriting::Refused(refusal),
-        Reading::Accepted(envelope) => match write_again(bytes, envelope, buffer) {
+        Err(refusal) => Rewriting::Refused(refusal),
+        Ok(envelope) => match write_again(bytes, envelope, buffer) {
             Writing::Written(size) => Rewriting::Written(size),
             Writing::Refused(_) => Rewriting::NoRoom,
         },
@@ -38,17 +38,15 @@ fn write_again(bytes: &[u8], envelope: Envelope, buffer: &mut [u8]) -> Writing
     let number = application_number(integrity);
     let body = envelope.body.slice(bytes);
     match addressing {
-        Addressing::Absent => write(header, Routing::Absent, b"", b"", body, number, buffer),
-        Addressing::Present {
-            ttl,
-            qos,
-            source,
-            destination,
-        } => write(
+        None => write(header, Routing::Absent, b"", b"", body, number, buffer),
+        Some(addressing) => write(
             header,
-            Routing::Present { ttl, qos },
-            source.slice(bytes),
-            destination.slice(bytes),
+            Routing::Present {
+                ttl: addressing.ttl,
+                qos: addressing.qos,
+            },
+            addressing.source.slice(bytes),
+            addressing.destination.slice(bytes),
             body,
             number,
             buffer,
