@@ -1,7 +1,6 @@
 -- Rewriting: what is lent to `write` is what reading handed out, and so the outcome is the bytes themselves or 15.
 -- Rests on the second round trip.
-use Rattle.std.proofs.Common.{◌≡◌, ℕ, ◌≤◌, Bool, true, false, cond, ltb, List, length, sym, refl, ap, ◌∙◌, arith}
-use Rattle.std.specs.Prelude.{Result, Ok, Err}
+use Rattle.std.proofs.Common.{◌≡◌, ℕ, ◌≤◌, Bool, true, false, cond, ltb, List, length, Result, Ok, Err, sym, refl, ap, ◌∙◌, arith}
 use Rattle.std.specs.Result.{MatchResult}
 use Rattle.sum.specs.Detection.{Bytes}
 use Rattle.envelope.specs.Fields.{Fields, Answer, accepted}

@@ -6,8 +6,8 @@ ghost use Rattle.envelope.specs.Told.{told_envelope, told_integrity};
 ghost use Rattle.envelope.specs.Writing.{told_given};
 ghost use Rattle.envelope.specs.declared.rewriter.RewriteFault.TheVariants.{Refused};
 
-use crate::fields::{Addressing, Envelope, Integrity};
-use crate::reader::{Reading, Refusal, read};
+use crate::fields::{Envelope, Integrity};
+use crate::reader::{Refusal, read};
 use crate::writer::{Given, Routing, write};
 
 // Of the refusals of writing only one can meet what reading has accepted.
@@ -28,12 +28,8 @@ impl From<Refusal> for RewriteFault {
 pub fn rewrite(bytes: &[u8], buffer: &mut [u8]) -> Result<usize, RewriteFault>
     ensures { Rewrites bytes.now buffer.old result buffer.new }
 {
-    match read(bytes) {
-        Reading::Refused(refusal) => Err(RewriteFault::Refused(refusal)),
-        Reading::Accepted(envelope) => {
-            write(given_by(bytes, envelope), buffer).map_err(|_| RewriteFault::NoRoom)
-        }
-    }
+    let envelope = read(bytes)?;
+    write(given_by(bytes, envelope), buffer).map_err(|_| RewriteFault::NoRoom)
 }
 
 // The fields of an accepted message, and the parts that they name, as a sender gives them.
@@ -44,7 +40,7 @@ fn given_by<'a>(bytes: &'a [u8], envelope: Envelope) -> Given<'a>
     let body = envelope.body.slice(bytes);
     let application = application_number(envelope.integrity);
     match envelope.addressing {
-        Addressing::Absent => Given {
+        None => Given {
             header,
             routing: None,
             source: b"",
@@ -52,16 +48,14 @@ fn given_by<'a>(bytes: &'a [u8], envelope: Envelope) -> Given<'a>
             body,
             application,
         },
-        Addressing::Present {
-            ttl,
-            qos,
-            source,
-            destination,
-        } => Given {
+        Some(addressing) => Given {
             header,
-            routing: Some(Routing { ttl, qos }),
-            source: source.slice(bytes),
-            destination: destination.slice(bytes),
+            routing: Some(Routing {
+                ttl: addressing.ttl,
+                qos: addressing.qos,
+            }),
+            source: addressing.source.slice(bytes),
+            destination: addressing.destination.slice(bytes),
             body,
             application,
         },

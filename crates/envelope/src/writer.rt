@@ -1,6 +1,7 @@
 // Writing: what a sender gives, as a message at the front of a lent buffer.
 // First the whole answer is judged, with nothing written; only a message that fits is put down.
 ghost use Rattle.std.specs.Prelude.{◌≡◌, ◌+◌, ◌<◌, ◌≤◌, [], ◌∷◌, ◌++◌, length};
+ghost use Rattle.envelope.specs.Flags.{told_kind};
 ghost use Rattle.envelope.specs.Helpers.{Allowed, pasted, variable_of_length};
 ghost use Rattle.envelope.specs.Layout.{header_size, largest_variable, largest_address, largest_body};
 ghost use Rattle.envelope.specs.Message.{header_bytes, variable_of, before_field, field_number, message};
@@ -8,7 +9,7 @@ ghost use Rattle.envelope.specs.Told.{told_header};
 ghost use Rattle.envelope.specs.Writing.{bad_end, bad_ends, stray_integrity, writing, answer_to_writing, told_given, told_writing, NumbersWriteFault, Writes};
 
 use crate::addresses::first_zero;
-use crate::fields::{Envelope, Header};
+use crate::fields::{Envelope, Header, Kind};
 use crate::flags;
 use crate::numbers::{four_digits, three_digits, two_digits};
 
@@ -149,10 +150,13 @@ fn bad_end(end: &[u8]) -> bool
 }
 
 // Rule 14.
-fn stray_integrity(application: u32, kind: u8) -> bool
-    ensures { result ≡ stray_integrity application kind }
+fn stray_integrity(application: u32, kind: Kind) -> bool
+    ensures { result ≡ stray_integrity application (told_kind kind) }
 {
-    application != 0 && (kind == flags::KIND_NONE || kind == flags::KIND_CRC)
+    match kind {
+        Kind::None | Kind::Crc => application != 0,
+        Kind::Application | Kind::Unassigned => false,
+    }
 }
 
 // An address and its closing zero.
@@ -203,14 +207,13 @@ fn header_digits(header: Header, v: usize, d: usize) -> [u8; Envelope::HEADER_SI
     ]
 }
 
-fn field_number(kind: u8, application: u32, before: &[u8]) -> u32
-    ensures { result ≡ field_number kind application before.now }
+fn field_number(kind: Kind, application: u32, before: &[u8]) -> u32
+    ensures { result ≡ field_number (told_kind kind) application before.now }
 {
-    if kind == flags::KIND_NONE {
-        return 0;
+    match kind {
+        Kind::None => 0,
+        Kind::Crc => sum::crc(before),
+        // Rule 3 has refused a kind that is not assigned.
+        Kind::Application | Kind::Unassigned => application,
     }
-    if kind == flags::KIND_CRC {
-        return sum::crc(before);
-    }
-    application
 }

@@ -16,8 +16,8 @@ mapped (Ok n) r k h = h
 mapped (Err e) (Ok n) k h = absurd h
 mapped (Err e) (Err f) k h = ap Err (k e f h)
 
-pub returns-in-Accepted : goal.returns-in-Accepted
-returns-in-Accepted c =
+pub returns : goal.returns
+returns c =
     let w : Writes _ c.args.buffer.now c.write.result c.write.new.buffer = rw c.given_by.ensures at c.write.ensures in
-    again c.args.bytes.now _ c.args.buffer.now _ (λ k. (c.type_inv.bytes k).fits) (sym c.in-Accepted.ensures)
+    again c.args.bytes.now _ c.args.buffer.now _ (λ k. (c.type_inv.bytes k).fits) (sym c.in_ok-envelope.ensures)
     w.1 _ _ (mapped c.write.result c.map_err.result (λ e f p. search rules) c.map_err.ensures.cases) w.0
