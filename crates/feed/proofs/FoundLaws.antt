@@ -113,7 +113,7 @@ found_is_held f piece t n e m r p found h =
     let finding : (told_taken t).finding ≡ message n (told_envelope e) = ap told_found found in
     let k : Kept (told_taken t) n (told_envelope e) =
     subst (λ (o : FeedOutcome). Kept o n (told_envelope e)) (sym p) (message_kept piece (told_feed f) n (told_envelope e) r (ap (λ (o : FeedOutcome). o.finding) (sym p) ∙ finding)) in
-    let size : size_by (told_standing t.feed.standing) t.feed.count ≡ n = ap (λ (s : Stand). size_by s t.feed.count) k.stand ∙ k.count in
+    let size : size_by (told_standing t.feed.beside.standing) t.feed.beside.count ≡ n = ap (λ (s : Stand). size_by s t.feed.beside.count) k.stand ∙ k.count in
     let same : take n t.feed.kept ≡ m = sym (h ∙ ap (λ (j : ℕ). take j t.feed.kept) size) in (
       ap (λ (g : Finding). found_by g t.feed.kept) finding ∙ ap (λ (x : List ℕ). x ∷ []) same,
       ap reading (sym same) ∙ k.accepts,

@@ -15,7 +15,7 @@ use Rattle.envelope.specs.Fields.{Refusal, Answer, accepted, refused as refusedM
 use Rattle.envelope.specs.Places.{PlaceOf, place_for}
 use Rattle.envelope.specs.Reading.{reading}
 use Rattle.envelope.specs.Told.{told_refusal}
-use Rattle.feed.specs.Feeding.{Stand, inside, whole, refused, State, fresh, begun, Finding, nothing, message, FeedOutcome, closing, still, byte_in, further_by, taking, end_by, ending}
+use Rattle.feed.specs.Feeding.{Stand, inside, whole, refused, State, fresh, begun, Finding, nothing, message, FeedOutcome, closing, byte_in, further_by, taking, end_by, ending}
 use Rattle.feed.specs.Messages.{Roomy}
 use Rattle.feed.specs.Places.{PlaceWhereRefused, in_room, CountTellsPlace, TakeKeepsPlace, EndKeepsPlace, found_place, PointsShort, TakePointsShort, EndPointsShort}
 use Rattle.feed.specs.Stream.{Course, streaming}
@@ -24,7 +24,7 @@ use Rattle.feed.specs.Verdict.{room, FeedRefusal, reads, too_long, cut, Verdict,
 use Rattle.feed.proofs.RefusedLaws.{inside_not_refused, whole_not_refused, same_refused}
 use Rattle.feed.proofs.RunLaws.{Byte, repeats, goes_in, byte, streaming_nil, streaming_cons, as_defined}
 use Rattle.feed.proofs.StandLaws.{begun_room}
-use Rattle.feed.proofs.StopLaws.{still_stands, taking_stands, ending_stands}
+use Rattle.feed.proofs.StopLaws.{taking_stands, ending_stands}
 use Rattle.feed.proofs.VerdictLaws.{verdict_by}
 use Rattle.feed.proofs.WeighedLaws.{more_not_refused, refused_not_complete, same_refusal, Weighed, is_too_long, not_yet, all_in, weigh}
 
@@ -169,10 +169,6 @@ told_short o stands told (refused cut) e = omega arith
 
 as_told : (s : State) (o p : FeedOutcome) → o ≡ p → PointsShort s p → PointsShort s o
 as_told s o p e h = subst (PointsShort s) (sym e) h
-
--- where nothing is used, what stands is told
-pub still_points_short : (s : State) (o : FeedOutcome) → o ≡ still s → PointsShort s o
-still_points_short s o e = as_told s o (still s) e (λ told. told_short (still s) (λ f. still_stands s f) told (still s).finding refl)
 
 pub take_points_short : TakePointsShort
 take_points_short s piece o roomy e =

@@ -130,7 +130,7 @@ run_none f (x ∷ l) h = absurd (omega arith)
 -- one call more: it uses a byte at least
 run_more : Answers → (most : ℕ) → RunsBelow most → RunsBelow (suc most)
 run_more answer most later f [] h = record { came = no_calls f; calls = over }
-run_more answer most later f (x ∷ l) h = go f.standing refl
+run_more answer most later f (x ∷ l) h = go f.beside.standing refl
   where
     one : standing (told_feed f).stand ≡ nothing → Run f (x ∷ l)
     one g =
@@ -144,7 +144,7 @@ run_more answer most later f (x ∷ l) h = go f.standing refl
           calls = call (x ∷ l) [] a.taken (sym (append-nil (x ∷ l))) a.promised r.calls;
         }
 
-    go : (s : Standing) → f.standing ≡ s → Run f (x ∷ l)
+    go : (s : Standing) → f.beside.standing ≡ s → Run f (x ∷ l)
     go Inside e = one (ap (λ (s : Standing). standing (told_standing s)) e)
     go Whole e = one (ap (λ (s : Standing). standing (told_standing s)) e)
     go (Refused fault) e = record { came = no_calls f; calls = stopped fault e }

@@ -4,27 +4,26 @@ ghost use Rattle.feed.specs.Told.{Fresh, Takes, Ends};
 
 use crate::advancer::advance;
 use crate::closer::close;
-use crate::step::{Found, Standing};
+use crate::refusal::Refusal;
+use crate::step::{Beside, Message, Standing};
 
-// The first `count` of the bytes kept are those of the message that is on its way, or was found, or was refused.
 #[derive(Clone, Copy)]
 pub struct Feed {
     pub kept: [u8; Feed::ROOM],
-    pub count: usize,
-    pub standing: Standing,
+    pub beside: Beside,
 }
 
 #[derive(Clone, Copy)]
 pub struct Taken {
     pub feed: Feed,
     pub used: usize,
-    pub found: Found,
+    pub found: Result<Option<Message>, Refusal>,
 }
 
 #[derive(Clone, Copy)]
 pub struct Ended {
     pub feed: Feed,
-    pub found: Found,
+    pub found: Result<Option<Message>, Refusal>,
 }
 
 impl Feed {
@@ -36,8 +35,10 @@ impl Feed {
     {
         Feed {
             kept: [0u8; Feed::ROOM],
-            count: 0,
-            standing: Standing::Inside,
+            beside: Beside {
+                count: 0,
+                standing: Standing::Inside,
+            },
         }
     }
 
@@ -46,19 +47,14 @@ impl Feed {
         ensures { Takes self piece.now result }
     {
         let mut kept = self.kept;
-        let count = self.count;
-        let standing = self.standing;
-        let step = advance(&mut kept, count, standing, piece);
-        let stands = step.standing;
-        let found = step.found;
+        let step = advance(&mut kept, self.beside, piece);
         Taken {
             feed: Feed {
                 kept,
-                count: step.count,
-                standing: stands,
+                beside: step.beside,
             },
             used: step.used,
-            found,
+            found: step.found,
         }
     }
 
@@ -67,18 +63,13 @@ impl Feed {
         ensures { Ends self result }
     {
         let kept = self.kept;
-        let count = self.count;
-        let standing = self.standing;
-        let step = close(count, standing);
-        let stands = step.standing;
-        let found = step.found;
+        let step = close(self.beside);
         Ended {
             feed: Feed {
                 kept,
-                count: step.count,
-                standing: stands,
+                beside: step.beside,
             },
-            found,
+            found: step.found,
         }
     }
 

@@ -14,12 +14,12 @@ pub enum Refusal {
     Cut,
 }
 
-impl Refusal {
-    // The numbers of the table of refusals, with the place in the message.
-    pub fn numbers(self) -> Numbers
-        ensures { NumbersFeedRefusal self result }
-    {
-        match self {
+// The numbers of the table of refusals, with the place in the message.
+impl From<Refusal> for Numbers {
+    ghost from_gives = { NumbersFeedRefusal };
+
+    fn from(refusal: Refusal) -> Numbers {
+        match refusal {
             Refusal::MessageRefused(refusal) => Numbers::by_reading(refusal),
             Refusal::TooLong => Numbers::plainly(51),
             Refusal::Cut => Numbers::plainly(52),
