@@ -1,7 +1,4 @@
 pub mod AmongLaws
-pub mod StoreLaws
-pub mod QueueLaws
-pub mod AnswerLaws
 pub mod KeptLaws
 pub mod OnlyLaws
 pub mod RefusingLaws

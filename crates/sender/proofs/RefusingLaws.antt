@@ -7,21 +7,21 @@ use lib.Dec.{leb, eqb}
 use lib.ListN.{length}
 use borrow.Author.Tests.{le-leb, lt-leb, lt-ltb, le-ltb}
 use Rattle.envelope.specs.Refusals.{Gives}
+use Rattle.std.specs.Prelude.{Err}
 use Rattle.sender.specs.Queue.{Slot, empty, holds, Queue, queue, Event, submit, ack, nak, time_out, Reply, sent, waits, settles, again, fails, refused, Outcome, outcome, refusal, among, known, placed, next, freed, is_in_flight, left, submitting, acking, naking, answering}
 use Rattle.sender.specs.Refusing.{RefusalKeeps, meets, EventGives, FullFirst, ThenKnown, NotInFlight, StartRefuses, StartTakes}
 use Rattle.sender.specs.Told.{State, queue_of, leaving, Happening, told_answer, state_of, StartAnswer, ready, no_bench, starting, Starts}
-use Rattle.sender.specs.declared.bench.Start.TheVariants.{Refused as StartRefused}
 use Rattle.sender.specs.declared.refusal.Refusal.TheVariants.{TooManyResends}
 use Rattle.sender.proofs.OnlyLaws.{same_bench, only_starts}
 
 pub refusal_keeps : RefusalKeeps
-refusal_keeps e b entry r exit refusal p a =
+refusal_keeps e b entry r after exit refusal p a =
     let s = state_of entry b in
     let told = ap (λ (h : Happening). h.reply) p in
-    let kept : state_of exit r.bench ≡ s =
+    let kept : state_of exit after ≡ s =
     ap (λ (h : Happening). h.state) p
     ∙ ap (λ (x : Reply). leaving x (answering e (queue_of s)).after s) (sym told ∙ ap told_answer a) in
-    (ap (λ (t : State). t.places) kept, same_bench r.bench b (ap (λ (t : State). t.beside) kept))
+    (ap (λ (t : State). t.places) kept, same_bench after b (ap (λ (t : State). t.beside) kept))
 
 -- ---- which event meets which
 
@@ -66,7 +66,7 @@ reply_gives (nak x) q = nak_gives x q
 reply_gives (time_out x) q = nak_gives x q
 
 pub event_gives : EventGives
-event_gives e b entry r exit refusal p a =
+event_gives e b entry r after exit refusal p a =
     subst (GivesIn (meets e)) (sym (ap (λ (h : Happening). h.reply) p) ∙ ap told_answer a) (reply_gives e (queue_of (state_of entry b)))
 
 -- ---- in order
@@ -83,11 +83,11 @@ pub not_in_flight : NotInFlight
 unfolding acking naking
 not_in_flight x q h = (rw h, rw h, rw h)
 
-start_refused : (n : ℕ) → 10 < n → Starts n (StartRefused TooManyResends)
+start_refused : (n : ℕ) → 10 < n → Starts n (Err TooManyResends)
 start_refused n h = rw (lt-ltb 10 n h)
 
 pub start_refuses : StartRefuses
-start_refuses n r p h = only_starts n r (StartRefused TooManyResends) p (start_refused n h)
+start_refuses n r p h = only_starts n r (Err TooManyResends) p (start_refused n h)
 
 abbrev IsBench : StartAnswer → Type 0
 IsBench (ready b) = Unit {0}
