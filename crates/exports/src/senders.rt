@@ -2,12 +2,13 @@
 // Any content of the storage is a state, and what a call leaves there is the state that the next one finds.
 ghost use Rattle.std.specs.Prelude.{◌≡◌};
 ghost use Rattle.sender.specs.Queue.{submit, ack, nak, time_out};
-ghost use Rattle.sender.specs.Told.{told_next, told_answer, told_bench, told_flight, told_start};
+ghost use Rattle.sender.specs.Told.{told_next, told_answer, told_bench, told_event, told_flight, told_start};
 ghost use Rattle.exports.specs.Senders.{slot_for, beside_for, flight_commid, flight_number, beside_numbers, settled_slots, failed_slots, reply_slots, numbers_after, sender_lent, AnswersForC, start_slots, start_numbers, StartsForC, CountsWaitingForC, TellsFlightForC};
 ghost use Rattle.exports.specs.Word.{word};
 
 use crate::answers::{answer, refused_answer};
-use sender::{Answer, Bench, Flight, Next, Start};
+use envelope::Numbers;
+use sender::{Answer, Bench, Event, Flight, Refusal};
 
 // How many numbers stand beside the places of those that wait.
 pub const BESIDE: usize = 4;
@@ -27,12 +28,7 @@ pub fn morlewen_sender_submit(
 ) -> u64
     ensures { AnswersForC (submit commid) (sender_lent waiting.old numbers.old) result (sender_lent waiting.new numbers.new) }
 {
-    let bench = bench_of(numbers);
-    let step = bench.submit(waiting, commid);
-    let answer = step.answer;
-    let after = step.bench;
-    put_bench(answer, after, numbers);
-    answer_word(answer)
+    take(waiting, numbers, Event::Submit(commid))
 }
 
 pub fn morlewen_sender_ack(
@@ -42,12 +38,7 @@ pub fn morlewen_sender_ack(
 ) -> u64
     ensures { AnswersForC (ack commid) (sender_lent waiting.old numbers.old) result (sender_lent waiting.new numbers.new) }
 {
-    let bench = bench_of(numbers);
-    let step = bench.ack(waiting, commid);
-    let answer = step.answer;
-    let after = step.bench;
-    put_bench(answer, after, numbers);
-    answer_word(answer)
+    take(waiting, numbers, Event::Ack(commid))
 }
 
 pub fn morlewen_sender_nak(
@@ -57,12 +48,7 @@ pub fn morlewen_sender_nak(
 ) -> u64
     ensures { AnswersForC (nak commid) (sender_lent waiting.old numbers.old) result (sender_lent waiting.new numbers.new) }
 {
-    let bench = bench_of(numbers);
-    let step = bench.nak(waiting, commid);
-    let answer = step.answer;
-    let after = step.bench;
-    put_bench(answer, after, numbers);
-    answer_word(answer)
+    take(waiting, numbers, Event::Nak(commid))
 }
 
 pub fn morlewen_sender_time_out(
@@ -72,34 +58,37 @@ pub fn morlewen_sender_time_out(
 ) -> u64
     ensures { AnswersForC (time_out commid) (sender_lent waiting.old numbers.old) result (sender_lent waiting.new numbers.new) }
 {
-    let bench = bench_of(numbers);
-    let step = bench.time_out(waiting, commid);
-    let answer = step.answer;
-    let after = step.bench;
-    put_bench(answer, after, numbers);
-    answer_word(answer)
+    take(waiting, numbers, Event::TimeOut(commid))
 }
 
 // How many wait.
 pub fn morlewen_sender_waiting(waiting: &[u32; Bench::PLACES], numbers: &[u64; BESIDE]) -> u64
     ensures { CountsWaitingForC (sender_lent waiting.now numbers.now) result }
 {
-    let bench = bench_of(numbers);
-    answer(0, 0, bench.waiting(waiting), 0)
+    answer(0, 0, bench_of(numbers).waiting(waiting), 0)
 }
 
 // Which one is in flight.
 pub fn morlewen_sender_flight(numbers: &[u64; BESIDE]) -> u64
     ensures { TellsFlightForC numbers.now result }
 {
-    let bench = bench_of(numbers);
-    let flight = bench.flight;
+    let flight = bench_of(numbers).flight;
     answer(
         0,
         0,
         flight_number(flight) as usize,
         flight_commid(flight) as usize,
     )
+}
+
+// An event: the bench out of its numbers, and back into them.
+fn take(waiting: &mut [u32; Bench::PLACES], numbers: &mut [u64; BESIDE], event: Event) -> u64
+    ensures { AnswersForC (told_event event) (sender_lent waiting.old numbers.old) result (sender_lent waiting.new numbers.new) }
+{
+    let mut bench = bench_of(numbers);
+    let answer = bench.take(waiting, event);
+    put_bench(answer, bench, numbers);
+    answer_word(answer)
 }
 
 fn bench_of(numbers: &[u64; BESIDE]) -> Bench
@@ -112,119 +101,94 @@ fn bench_of(numbers: &[u64; BESIDE]) -> Bench
     }
 }
 
-fn flight_of(commid: u64, number: u64) -> Flight
+fn flight_of(commid: u64, number: u64) -> Option<Flight>
     ensures { told_flight result ≡ slot_for commid number }
 {
     if number == 0 {
-        return Flight::Idle;
+        return None;
     }
-    Flight::Busy {
+    Some(Flight {
         commid: (commid % 4294967296) as u32,
         left: ((number - 1) % 256) as u8,
-    }
+    })
 }
 
 fn bench_numbers(bench: Bench) -> [u64; BESIDE]
     ensures { result ≡ beside_numbers (told_bench bench) }
 {
-    let flight = bench.flight;
     [
-        bench.resends as u64,
+        u64::from(bench.resends),
         bench.count as u64,
-        flight_commid(flight),
-        flight_number(flight),
+        flight_commid(bench.flight),
+        flight_number(bench.flight),
     ]
 }
 
-fn flight_commid(flight: Flight) -> u64
+fn flight_commid(flight: Option<Flight>) -> u64
     ensures { result ≡ flight_commid (told_flight flight) }
 {
-    match flight {
-        Flight::Idle => 0,
-        Flight::Busy { commid, left: _ } => commid as u64,
-    }
+    flight.map_or(0, |flight| u64::from(flight.commid))
 }
 
-fn flight_number(flight: Flight) -> u64
+fn flight_number(flight: Option<Flight>) -> u64
     ensures { result ≡ flight_number (told_flight flight) }
 {
-    match flight {
-        Flight::Idle => 0,
-        Flight::Busy { commid: _, left } => (left as u64) + 1,
-    }
+    flight.map_or(0, |flight| u64::from(flight.left) + 1)
 }
 
 // A refusal leaves the numbers as they were.
-fn put_bench(answer: Answer, bench: Bench, numbers: &mut [u64; BESIDE])
+fn put_bench(answer: Result<Answer, Refusal>, bench: Bench, numbers: &mut [u64; BESIDE])
     ensures { numbers.new ≡ numbers_after (told_answer answer) (told_bench bench) numbers.old }
 {
-    match answer {
-        Answer::Refused(_) => {}
-        Answer::Sent => {
-            *numbers = bench_numbers(bench);
-        }
-        Answer::Waits => {
-            *numbers = bench_numbers(bench);
-        }
-        Answer::Settled(_) => {
-            *numbers = bench_numbers(bench);
-        }
-        Answer::Again => {
-            *numbers = bench_numbers(bench);
-        }
-        Answer::Failed(_) => {
-            *numbers = bench_numbers(bench);
-        }
+    if answer.is_ok() {
+        *numbers = bench_numbers(bench);
     }
 }
 
-fn answer_word(reply: Answer) -> u64
+fn answer_word(reply: Result<Answer, Refusal>) -> u64
     ensures { result ≡ word (reply_slots (told_answer reply)) }
 {
     match reply {
-        Answer::Sent => answer(0, 0, 1, 0),
-        Answer::Waits => answer(0, 0, 2, 0),
-        Answer::Settled(next) => settled_word(next),
-        Answer::Again => answer(0, 0, 5, 0),
-        Answer::Failed(next) => failed_word(next),
-        Answer::Refused(refusal) => refused_answer(refusal.numbers(), 0),
+        Ok(Answer::Sent) => answer(0, 0, 1, 0),
+        Ok(Answer::Waits) => answer(0, 0, 2, 0),
+        Ok(Answer::Settled(next)) => settled_word(next),
+        Ok(Answer::Again) => answer(0, 0, 5, 0),
+        Ok(Answer::Failed(next)) => failed_word(next),
+        Err(refusal) => refused_answer(Numbers::from(refusal), 0),
     }
 }
 
-fn settled_word(next: Next) -> u64
+fn settled_word(next: Option<u32>) -> u64
     ensures { result ≡ word (settled_slots (told_next next)) }
 {
     match next {
-        Next::Nothing => answer(0, 0, 3, 0),
-        Next::Goes(commid) => answer(0, 0, 4, commid as usize),
+        None => answer(0, 0, 3, 0),
+        Some(commid) => answer(0, 0, 4, commid as usize),
     }
 }
 
-fn failed_word(next: Next) -> u64
+fn failed_word(next: Option<u32>) -> u64
     ensures { result ≡ word (failed_slots (told_next next)) }
 {
     match next {
-        Next::Nothing => answer(0, 0, 6, 0),
-        Next::Goes(commid) => answer(0, 0, 7, commid as usize),
+        None => answer(0, 0, 6, 0),
+        Some(commid) => answer(0, 0, 7, commid as usize),
     }
 }
 
-fn put_start(start: Start, numbers: &mut [u64; BESIDE])
+fn put_start(start: Result<Bench, Refusal>, numbers: &mut [u64; BESIDE])
     ensures { numbers.new ≡ start_numbers (told_start start) numbers.old }
 {
-    match start {
-        Start::Ready(bench) => {
-            *numbers = bench_numbers(bench);
-        }
-        Start::Refused(_) => {}
+    if let Ok(bench) = start {
+        *numbers = bench_numbers(bench);
     }
 }
 
-fn start_word(start: Start) -> u64
+fn start_word(start: Result<Bench, Refusal>) -> u64
     ensures { result ≡ word (start_slots (told_start start)) }
 {
     match start {
-        Start::Ready(_) => answer(0, 0, 0, 0),
-        Start::Refused(refusal) => refused_answer(refusal.numbers(), 0),
+        Ok(_) => answer(0, 0, 0, 0),
+        Err(refusal) => refused_answer(Numbers::from(refusal), 0),
     }
 }

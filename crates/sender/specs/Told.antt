@@ -5,11 +5,13 @@ use Rattle.std.proofs.Math.Option.{none, some}
 use Rattle.std.proofs.Math.Option as paper
 use Rattle.envelope.specs.Refusals.{Refused, plainly, TellsNumbers}
 use Rattle.envelope.specs.declared.refusals.Numbers.{Numbers}
-use Rattle.sender.specs.Queue.{most_waiting, Slot, empty, holds, Queue, queue, Event, Reply, sent, waits, settles, again, fails, refused, answering}
+use Rattle.sender.specs.Queue.{most_waiting, Slot, empty, holds, Queue, queue, Event, submit, ack, nak, time_out, Reply, sent, waits, settles, again, fails, refused, answering}
 use Rattle.sender.specs.declared.bench.Answer.{Answer}
 use Rattle.sender.specs.declared.bench.Answer.TheVariants.{Sent, Waits, Settled, Again, Failed}
 use Rattle.sender.specs.declared.bench.Bench.{Bench}
 use Rattle.sender.specs.declared.bench.Flight.{Flight}
+use Rattle.sender.specs.declared.event.Event.{Event as CodeEvent}
+use Rattle.sender.specs.declared.event.Event.TheVariants.{Submit, Ack, Nak, TimeOut}
 use Rattle.sender.specs.declared.refusal.Refusal.{Refusal}
 use Rattle.sender.specs.declared.refusal.Refusal.TheVariants.{Full, Known, NotInFlight, TooManyResends}
 
@@ -95,7 +97,13 @@ state_of places b = record { places = places; beside = told_bench b }
 abbrev pub told_step : Result Answer Refusal → Bench → List ℕ → Happening
 told_step r b places = record { reply = told_answer r; state = state_of places b }
 
--- what `Bench::submit`, `Bench::ack`, `Bench::nak` and `Bench::time_out` promise, each for its event
+abbrev pub told_event : CodeEvent → Event
+told_event (Submit x) = submit x
+told_event (Ack x) = ack x
+told_event (Nak x) = nak x
+told_event (TimeOut x) = time_out x
+
+-- what `Bench::submit`, `Bench::ack`, `Bench::nak` and `Bench::time_out` promise, each for its event, and `Bench::take` for any
 abbrev pub Answers : Event → Bench → List ℕ → Result Answer Refusal → Bench → List ℕ → Type 0
 Answers e b entry r after exit = told_step r after exit ≡ happening e (state_of entry b)
 

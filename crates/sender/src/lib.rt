@@ -3,8 +3,10 @@
 #![tactic(auto)]
 
 pub mod bench;
+pub mod event;
 mod places;
 pub mod refusal;
 
 pub use crate::bench::{Answer, Bench, Flight};
+pub use crate::event::Event;
 pub use crate::refusal::Refusal;

@@ -1,0 +1,33 @@
+// The events that a bench meets, as one type, for whoever has them one after the other.
+// Each goes to the function of its name.
+ghost use Rattle.sender.specs.Told.{told_event, Answers};
+
+use crate::bench::{Answer, Bench};
+use crate::refusal::Refusal;
+
+// Each with the COMMID that it names.
+#[derive(Clone, Copy)]
+pub enum Event {
+    Submit(u32),
+    Ack(u32),
+    Nak(u32),
+    TimeOut(u32),
+}
+
+impl Bench {
+    // Whatever comes next.
+    pub fn take(
+        &mut self,
+        waiting: &mut [u32; Bench::PLACES],
+        event: Event,
+    ) -> Result<Answer, Refusal>
+        ensures { Answers (told_event event) self.old waiting.old result self.new waiting.new }
+    {
+        match event {
+            Event::Submit(commid) => self.submit(waiting, commid),
+            Event::Ack(commid) => self.ack(waiting, commid),
+            Event::Nak(commid) => self.nak(waiting, commid),
+            Event::TimeOut(commid) => self.time_out(waiting, commid),
+        }
+    }
+}
