@@ -21,6 +21,7 @@ const KIND_CRC: u8 = 1;
 const KIND_UNASSIGNED: u8 = 3;
 
 // 1: fewer than 21 bytes.
+#[tactic(auto, unfolding(crate::specs::Rules::least_rule))]
 pub(crate) fn least(bytes: &[u8]) -> Verdict
     ensures { told_verdict result ≡ least_rule bytes.now }
 {
@@ -28,6 +29,7 @@ pub(crate) fn least(bytes: &[u8]) -> Verdict
 }
 
 // 2: header version is not 4.
+#[tactic(auto, unfolding(crate::specs::Rules::version_rule))]
 pub(crate) fn version(bytes: &[u8]) -> Verdict
     ensures { told_verdict result ≡ version_rule bytes.now }
 {
@@ -41,6 +43,7 @@ pub(crate) fn version(bytes: &[u8]) -> Verdict
 }
 
 // 3: an unassigned flag bit is set, or integrity kind 3.
+#[tactic(auto, unfolding(crate::specs::Rules::flags_rule))]
 pub(crate) fn flags(bytes: &[u8]) -> Verdict
     ensures { told_verdict result ≡ flags_rule bytes.now }
 {
@@ -54,6 +57,7 @@ pub(crate) fn flags(bytes: &[u8]) -> Verdict
 }
 
 // 4: V is 1 to 5, or above 132.
+#[tactic(auto, unfolding(crate::specs::Rules::variable_size_rule))]
 pub(crate) fn variable_size(bytes: &[u8]) -> Verdict
     ensures { told_verdict result ≡ variable_size_rule bytes.now }
 {
@@ -67,6 +71,7 @@ pub(crate) fn variable_size(bytes: &[u8]) -> Verdict
 }
 
 // 5: 17 + V + D + 4 is not the number of bytes lent.
+#[tactic(auto, unfolding(crate::specs::Rules::length_rule))]
 pub(crate) fn length(bytes: &[u8]) -> Verdict
     ensures { told_verdict result ≡ length_rule bytes.now }
 {
@@ -87,14 +92,8 @@ pub(crate) fn addresses(bytes: &[u8]) -> Verdict
         return Verdict::NotJudged;
     }
     let v = size_in(bytes);
-    if v < Envelope::SMALLEST_VARIABLE {
-        return Verdict::NotJudged;
-    }
-    if Envelope::LARGEST_VARIABLE < v {
-        return Verdict::NotJudged;
-    }
     let end = Envelope::HEADER_SIZE + v;
-    if bytes.len() < end {
+    if v < Envelope::SMALLEST_VARIABLE || Envelope::LARGEST_VARIABLE < v || bytes.len() < end {
         return Verdict::NotJudged;
     }
     verdict(
@@ -126,30 +125,24 @@ fn verdict(place: usize, broken: bool) -> Verdict
     ensures { told_verdict result ≡ judged place broken }
 {
     if broken {
-        return Verdict::Broken(place);
+        Verdict::Broken(place)
+    } else {
+        Verdict::Kept
     }
-    Verdict::Kept
 }
 
+#[tactic(auto, unfolding(envelope::specs::Flags::bad_flags))]
 fn bad_flags(flags: u8) -> bool
     ensures { result ≡ bad_flags flags }
 {
-    if flags / 32 != 0 {
-        return true;
-    }
-    kind_in(flags) == KIND_UNASSIGNED
+    flags / 32 != 0 || kind_in(flags) == KIND_UNASSIGNED
 }
 
+#[tactic(auto, unfolding(envelope::specs::Heading::bad_variable_size))]
 fn bad_variable_size(v: usize) -> bool
     ensures { result ≡ bad_variable_size v }
 {
-    if v == 0 {
-        return false;
-    }
-    if v < Envelope::SMALLEST_VARIABLE {
-        return true;
-    }
-    Envelope::LARGEST_VARIABLE < v
+    v != 0 && (v < Envelope::SMALLEST_VARIABLE || Envelope::LARGEST_VARIABLE < v)
 }
 
 // The region is not two addresses, each at most 64 bytes with its closing zero.
@@ -157,20 +150,11 @@ fn bad_region(region: &[u8]) -> bool
     ensures { result ≡ not (two_addresses region.now) }
 {
     let source = first_zero(region);
-    if Envelope::LARGEST_ADDRESS <= source {
-        return true;
-    }
-    if region.len() <= source {
+    if Envelope::LARGEST_ADDRESS <= source || region.len() <= source {
         return true;
     }
     let destination = first_zero(&region[source + 1..]);
-    if Envelope::LARGEST_ADDRESS <= destination {
-        return true;
-    }
-    if source + 1 + (destination + 1) != region.len() {
-        return true;
-    }
-    false
+    Envelope::LARGEST_ADDRESS <= destination || source + 1 + (destination + 1) != region.len()
 }
 
 fn bad_integrity(bytes: &[u8], kind: u8, place: usize) -> bool
@@ -208,6 +192,7 @@ fn size_in(bytes: &[u8]) -> usize
 }
 
 // Where the integrity field should stand: 17 + V + D. That D is a u32 is all that the bound needs.
+#[tactic(auto, unfolding(envelope::specs::Numbers::three_at))]
 fn place_in(bytes: &[u8]) -> usize
     requires { header_size ≤ length bytes.now }
     ensures { (result ≡ field_place bytes.now) × (result < 4294967569) }

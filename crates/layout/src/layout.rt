@@ -50,26 +50,16 @@ fn data_length(message: &[u8]) -> usize
     d as usize
 }
 
-// The source without its zero, in the V - 4 bytes after TTL and QoS, as far as they reach.
+// The source without its zero, in the V - 4 bytes after TTL and QoS, as far as they reach. A V below 4 leaves no room for addresses.
 fn source_size(message: &[u8], v: usize) -> usize
     requires { v < 256 }
     ensures { (result ≡ source_size (region_of message.now v)) × (result < 256) }
 {
     let region = Part {
         place: Envelope::ADDRESSES_PLACE,
-        size: region_size(v),
+        size: v.saturating_sub(Envelope::ROUTING_SIZE),
     };
     first_zero(region.slice(message))
-}
-
-// A V below 4 leaves no room for addresses.
-fn region_size(v: usize) -> usize
-    ensures { result ≡ v - routing_size }
-{
-    if v < Envelope::ROUTING_SIZE {
-        return 0;
-    }
-    v - Envelope::ROUTING_SIZE
 }
 
 // How many bytes stand before the first zero: all, where there is none.
@@ -89,8 +79,5 @@ fn first_zero(bytes: &[u8]) -> usize
 fn byte_at(bytes: &[u8], place: usize) -> u8
     ensures { result ≡ byte_at bytes.now place }
 {
-    if place < bytes.len() {
-        return bytes[place];
-    }
-    0
+    bytes.get(place).copied().unwrap_or(0)
 }

@@ -25,7 +25,7 @@ pub put_frame-requires : goal.put_frame-requires
 put_frame-requires c = let l = short (goal.at.put_frame-requires c).In-Accepted in (omega arith, l)
 
 pub returns-in-Refused : goal.returns-in-Refused
-returns-in-Refused c = answers_refused _ _ _ (is_67 _ _ _ _ (sym (ap told (sym c.in-Refused.is) ∙ c.read.ensures)))
+returns-in-Refused c = rw c.from.ensures (answers_refused _ _ _ (is_67 _ _ _ _ (sym (ap told (sym c.in-Refused.is) ∙ c.read.ensures))))
 
 pub returns-else-buffer-size : goal.returns-else-buffer-size
 returns-else-buffer-size c =
