@@ -1,12 +1,12 @@
 // Messages as they arrive, for C: a feed in storage that the caller lends.
 // Any content of the storage is a feed, and what a call leaves there is the feed that the next one finds.
-ghost use Rattle.std.specs.Prelude.{◌≡◌, ◌<◌, ◌^◌, ◌-◌};
+ghost use Rattle.std.specs.Prelude.{◌≡◌, ℕ, ◌<◌, ◌^◌, ◌-◌, List};
 ghost use Rattle.envelope.specs.Layout.{field_size};
 ghost use Rattle.envelope.specs.Places.{place_for};
 ghost use Rattle.envelope.specs.Told.{told_fault, told_refusal};
 ghost use Rattle.feed.specs.Places.{in_room};
-ghost use Rattle.feed.specs.Told.{told_standing, told_found};
-ghost use Rattle.exports.specs.Feeds.{standing_number, refusal_for, standing_for, found_slots, fields_found, lent, TakesForC, EndsForC, RestartsForC, HoldsForC};
+ghost use Rattle.feed.specs.Told.{told_standing, state_of, told_found};
+ghost use Rattle.exports.specs.Feeds.{standing_number, refusal_for, standing_for, state_numbers, state_for, found_slots, fields_found, lent, TakesForC, EndsForC, RestartsForC, HoldsForC};
 ghost use Rattle.exports.specs.Word.{word};
 
 use crate::answers::{answer, refused_answer};
@@ -50,6 +50,23 @@ pub fn morlewen_feed_message(kept: &[u8; Feed::ROOM], numbers: &[u64; NUMBERS]) 
     ensures { HoldsForC kept.now numbers.now result }
 {
     answer(0, 0, 0, held(kept, beside_in(numbers)).len())
+}
+
+// What stands beside the bytes kept, by its two numbers.
+fn beside_in(numbers: &[u64; NUMBERS]) -> Beside
+    ensures { (kept : List ℕ) → state_of kept result ≡ state_for kept numbers.now }
+{
+    let count = numbers[0] as usize;
+    Beside {
+        count,
+        standing: standing_of(numbers[1], count),
+    }
+}
+
+fn beside_numbers(beside: Beside) -> [u64; NUMBERS]
+    ensures { (kept : List ℕ) → result ≡ state_numbers (state_of kept beside) }
+{
+    [beside.count as u64, standing_number(beside.standing)]
 }
 
 fn standing_of(number: u64, count: usize) -> Standing

@@ -2,7 +2,8 @@
 #![tactic(auto)]
 
 use console::files::read_full;
-use golden::{Counting, Entry, Record, Refusal, count, entry_at};
+use envelope::Numbers;
+use golden::{Entry, Record, Refusal, count, entry_at};
 use std::io;
 use std::io::Write;
 
@@ -17,83 +18,40 @@ fn main(rt: HostRuntime) -> io::Result<()> {
 
 fn list(out: &mut impl Write, file: &[u8]) -> io::Result<()> {
     match count(file) {
-        Counting::Count(records) => {
-            heading(out, records)?;
-            list_records(out, file, records)
-        }
-        Counting::Refused(refusal) => {
-            text(out, b"refused")?;
-            numbers(out, refusal)?;
-            end_line(out)
-        }
+        Ok(records) => list_records(out, file, records),
+        Err(refusal) => refused(out, refusal),
     }
 }
 
-fn heading(out: &mut impl Write, records: usize) -> io::Result<()> {
-    text(out, b"records")?;
-    number(out, records as u64)?;
-    end_line(out)
-}
-
 fn list_records(out: &mut impl Write, file: &[u8], records: usize) -> io::Result<()> {
-    let mut n = 0;
-    while n < records {
+    writeln!(out, "records {records}")?;
+    for n in 0..records {
         line(out, file, n)?;
-        n += 1;
     }
     Ok(())
 }
 
 // The record's number, and what the library answers of it.
 fn line(out: &mut impl Write, file: &[u8], n: usize) -> io::Result<()> {
-    write!(out, "{n}")?;
+    write!(out, "{n} ")?;
     match entry_at(file, n) {
-        Entry::Good {
-            message_type,
-            number: message_number,
-            size,
-            retired,
-        } => good(out, message_type, message_number, size, retired)?,
-        Entry::Refused(refusal) => {
-            text(out, b" refused")?;
-            numbers(out, refusal)?;
-        }
+        Ok(entry) => good(out, entry),
+        Err(refusal) => refused(out, refusal),
     }
-    end_line(out)
 }
 
-fn good(
-    out: &mut impl Write,
-    message_type: u16,
-    message_number: u32,
-    size: usize,
-    retired: bool,
-) -> io::Result<()> {
-    number(out, message_type as u64)?;
-    number(out, message_number as u64)?;
-    number(out, size as u64)?;
-    if retired {
-        text(out, b" retired")?;
-    }
-    Ok(())
+fn good(out: &mut impl Write, entry: Entry) -> io::Result<()> {
+    let (name, size) = (entry.name, entry.size);
+    let (message_type, number) = (name.message_type, name.number);
+    let retired = if entry.retired { " retired" } else { "" };
+    writeln!(out, "{message_type} {number} {size}{retired}")
 }
 
-fn numbers(out: &mut impl Write, refusal: Refusal) -> io::Result<()> {
-    let numbers = refusal.numbers();
-    number(out, numbers.number as u64)?;
-    number(out, numbers.reading as u64)?;
-    number(out, numbers.place as u64)
-}
-
-// A space, and the number after it.
-fn number(out: &mut impl Write, n: u64) -> io::Result<()> {
-    write!(out, " {n}")
-}
-
-fn end_line(out: &mut impl Write) -> io::Result<()> {
-    text(out, b"\n")
-}
-
-fn text(out: &mut impl Write, words: &[u8]) -> io::Result<()> {
-    out.write_all(words)
+fn refused(out: &mut impl Write, refusal: Refusal) -> io::Result<()> {
+    let Numbers {
+        number,
+        reading,
+        place,
+    } = Numbers::from(refusal);
+    writeln!(out, "refused {number} {reading} {place}")
 }
