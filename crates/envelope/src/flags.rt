@@ -33,7 +33,7 @@ fn is_set(flags: u8, bit: u32) -> bool
 pub fn kind(flags: u8) -> Kind
     ensures { TellsKind flags result }
 {
-    match flags / 8 % 4 {
+    match flags >> 3 & 0b11 {
         0 => Kind::None,
         1 => Kind::Crc,
         2 => Kind::Application,
@@ -45,5 +45,5 @@ pub fn kind(flags: u8) -> Kind
 pub(crate) fn bad_flags(flags: u8) -> bool
     ensures { result ≡ bad_flags flags }
 {
-    flags / 32 != 0 || kind(flags) == Kind::Unassigned
+    flags >> 5 != 0 || kind(flags) == Kind::Unassigned
 }
