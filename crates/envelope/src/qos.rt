@@ -10,6 +10,7 @@ pub struct Qos {
     pub class: u8,
 }
 
+#[tactic(auto, unfolding(crate::specs::Qos::splitting))]
 pub fn split(qos: u16) -> Qos
     ensures { Splits qos result }
 {
