@@ -1,4 +1,5 @@
 // Big-endian numbers: from bytes by value, from a place of a slice, and back into bytes.
+// One name for each width: the library has a type for two and for four bytes, and none for three.
 ghost use Rattle.std.specs.Prelude.{◌≡◌, ℕ, ◌+◌, ◌<◌, ◌≤◌, length, slice_index};
 ghost use Rattle.envelope.specs.Numbers.{TwoBytes, ThreeBytes, FourBytes, two_at, three_at, four_at, in_three, TwoDigits, FourDigits};
 

@@ -10,6 +10,7 @@ pub struct Qos {
     pub class: u8,
 }
 
+// The way back of join, and so named beside it: From would name this one way alone.
 #[tactic(auto, unfolding(crate::specs::Qos::splitting))]
 pub fn split(qos: u16) -> Qos
     ensures { Splits qos result }
