@@ -29,8 +29,6 @@ use Rattle.envelope.specs.declared.fields.Envelope.{Envelope}
 use Rattle.envelope.specs.declared.lateness.Lateness.{Lateness}
 use Rattle.envelope.specs.declared.lateness.Lateness.TheVariants.{NoClock, Late, InTime}
 use Rattle.envelope.specs.declared.qos.Qos.{Qos}
-use Rattle.envelope.specs.declared.qos.Joining.{Joining}
-use Rattle.envelope.specs.declared.qos.Joining.TheVariants.{Joined, DoesNotFit}
 use Rattle.envelope.specs.declared.reader.Fault.{Fault}
 use Rattle.envelope.specs.declared.reader.Fault.TheVariants.{TooShort, WrongVersion, BadFlags, BadVariableSize, WrongLength, BadAddresses, BadIntegrity}
 use Rattle.envelope.specs.declared.fields.Kind.{Kind}
@@ -39,12 +37,10 @@ use Rattle.envelope.specs.declared.reader.Refusal.{Refusal}
 use Rattle.envelope.specs.declared.refusals.Numbers.{Numbers}
 use Rattle.envelope.specs.declared.sequence.Sequence.{Sequence}
 use Rattle.envelope.specs.declared.sequence.Sequence.TheVariants.{Repeat, Next, Ahead, Behind}
-use Rattle.envelope.specs.declared.rewriter.Rewriting.{Rewriting}
-use Rattle.envelope.specs.declared.rewriter.Rewriting.TheVariants as again
+use Rattle.envelope.specs.declared.rewriter.RewriteFault.{RewriteFault}
+use Rattle.envelope.specs.declared.rewriter.RewriteFault.TheVariants as again
 use Rattle.envelope.specs.declared.writer.WriteFault.{WriteFault}
 use Rattle.envelope.specs.declared.writer.WriteFault.TheVariants.{BadFlags as NoFlags, BadAddresses as NoEnds, BodyTooLong, StrayIntegrity, NoRoom}
-use Rattle.envelope.specs.declared.writer.Writing.{Writing}
-use Rattle.envelope.specs.declared.writer.Writing.TheVariants.{Written, Refused as WriteRefused}
 
 -- ---- reading
 
@@ -213,13 +209,13 @@ untold_qos f =
 pub only_splits : (q : ℕ) → Only₁ (Splits q)
 only_splits q = only_by_telling told_qos untold_qos (λ r. refl) (splitting q)
 
-abbrev untold_joining : QosAnswer → Joining
-untold_joining (qos.joined q) = Joined q
-untold_joining (qos.refused n) = DoesNotFit
+abbrev untold_joining : QosAnswer → Option ℕ
+untold_joining (qos.joined q) = Some q
+untold_joining (qos.refused n) = None
 
-untold_joining_lem : (r : Joining) → untold_joining (told_joining r) ≡ r
-untold_joining_lem (Joined q) = refl
-untold_joining_lem DoesNotFit = refl
+untold_joining_lem : (r : Option ℕ) → untold_joining (told_joining r) ≡ r
+untold_joining_lem (Some q) = refl
+untold_joining_lem None = refl
 
 pub only_joins : (q : Qos) → Only₁ (Joins q)
 only_joins q = only_by_telling told_joining untold_joining untold_joining_lem (joining (told_qos q))
@@ -283,27 +279,27 @@ untold_write_fault_lem NoRoom = refl
 pub only_numbers_write_fault : (f : WriteFault) → Only₁ (NumbersWriteFault f)
 only_numbers_write_fault f a b p q = p ∙ sym q
 
-abbrev untold_writing : WriteAnswer → Writing
-untold_writing (wrote n) = Written n
-untold_writing (refused n) = WriteRefused (untold_write_fault (n - 11))
+abbrev untold_writing : WriteAnswer → Result ℕ WriteFault
+untold_writing (wrote n) = Ok n
+untold_writing (refused n) = Err (untold_write_fault (n - 11))
 
-untold_writing_lem : (r : Writing) → untold_writing (told_writing r) ≡ r
-untold_writing_lem (Written n) = refl
-untold_writing_lem (WriteRefused f) = ap WriteRefused (untold_write_fault_lem f)
+untold_writing_lem : (r : Result ℕ WriteFault) → untold_writing (told_writing r) ≡ r
+untold_writing_lem (Ok n) = refl
+untold_writing_lem (Err f) = ap Err (untold_write_fault_lem f)
 
 pub only_writes : (g : Given) (entry : List ℕ) → Only₂ (Writes g entry)
 only_writes g entry a b x y p q =
     (only_by_telling told_writing untold_writing untold_writing_lem (answer_to_writing (writing g (length entry))) a b p.0 q.0, p.1 ∙ sym q.1)
 
-abbrev untold_rewriting : RewriteAnswer → Rewriting
-untold_rewriting (rewriting.rewrote n) = again.Written n
-untold_rewriting (rewriting.refused r) = again.Refused (untold_refusal r)
-untold_rewriting rewriting.no_room = again.NoRoom
+abbrev untold_rewriting : RewriteAnswer → Result ℕ RewriteFault
+untold_rewriting (rewriting.rewrote n) = Ok n
+untold_rewriting (rewriting.refused r) = Err (again.Refused (untold_refusal r))
+untold_rewriting rewriting.no_room = Err again.NoRoom
 
-untold_rewriting_lem : (r : Rewriting) → untold_rewriting (told_rewriting r) ≡ r
-untold_rewriting_lem (again.Written n) = refl
-untold_rewriting_lem (again.Refused r) = ap again.Refused (untold_refusal_lem r)
-untold_rewriting_lem again.NoRoom = refl
+untold_rewriting_lem : (r : Result ℕ RewriteFault) → untold_rewriting (told_rewriting r) ≡ r
+untold_rewriting_lem (Ok n) = refl
+untold_rewriting_lem (Err (again.Refused r)) = ap (λ (x : Refusal). Err (again.Refused x)) (untold_refusal_lem r)
+untold_rewriting_lem (Err again.NoRoom) = refl
 
 pub only_rewrites : (s entry : List ℕ) → Only₂ (Rewrites s entry)
 only_rewrites s entry a b x y p q =

@@ -5,16 +5,12 @@ use Rattle.envelope.specs.Addresses.{first_zero, source_size, destination_size}
 use Rattle.envelope.specs.Fields.{AddressingFields, IntegrityFields, Refusal}
 use Rattle.envelope.specs.Heading.{HeadingAnswer, passed, refused}
 use Rattle.envelope.specs.Layout.{header_size, routing_size, largest_address, largest_body, field_size}
-use Rattle.envelope.specs.Message.{RoutingFields, unaddressed, addressed}
-use Rattle.envelope.specs.RoundTrips.{given_by}
-use Rattle.envelope.specs.Told.{told_refusal, told_addressing, told_integrity, told_envelope}
-use Rattle.envelope.specs.Writing.{Writes}
+use Rattle.envelope.specs.Message.{RoutingFields, unaddressed, addressed, Given}
+use Rattle.envelope.specs.Told.{told_refusal, told_addressing, told_integrity}
 use Rattle.envelope.specs.declared.addresses.Sizes.{Sizes}
 use Rattle.envelope.specs.declared.fields.Addressing.{Addressing}
-use Rattle.envelope.specs.declared.fields.Envelope.{Envelope}
 use Rattle.envelope.specs.declared.fields.Integrity.{Integrity}
 use Rattle.envelope.specs.declared.reader.Refusal.{Refusal as CodeRefusal}
-use Rattle.envelope.specs.declared.writer.Writing.{Writing}
 
 abbrev pub unless : {A : Type 0} → Bool → A → Option A
 unless true x = None
@@ -54,13 +50,12 @@ abbrev pub variable_length : RoutingFields → ℕ → ℕ → ℕ
 variable_length unaddressed source destination = 0
 variable_length (addressed ttl qos) source destination = routing_size + (source + 1 + (destination + 1))
 
--- the sizes of what may be written
-pub record Allowed (routing : RoutingFields) (source destination body room : ℕ) : Type 0 where
-  pub source_short : source < largest_address
-  pub destination_short : destination < largest_address
-  pub body_short : body ≤ largest_body
-  pub fits : header_size + variable_length routing source destination + body + field_size ≤ room
+abbrev pub variable_of_length : Given → ℕ
+variable_of_length g = variable_length g.routing (length g.source) (length g.destination)
 
--- an envelope's fields and parts, written: what `write` promises of them
-abbrev pub Again : List ℕ → Envelope → List ℕ → Writing → List ℕ → Type 0
-Again s e entry r exit = Writes (given_by s (told_envelope e)) entry r exit
+-- what may be written: short enough, and within the room
+pub record Allowed (g : Given) (room : ℕ) : Type 0 where
+  pub source_short : length g.source < largest_address
+  pub destination_short : length g.destination < largest_address
+  pub body_short : length g.body ≤ largest_body
+  pub fits : header_size + variable_of_length g + length g.body + field_size ≤ room

@@ -21,5 +21,5 @@ pub use crate::announcer::announce;
 pub use crate::fields::{Addressing, Envelope, Header, Integrity, Kind, Part};
 pub use crate::reader::{Fault, Refusal, read};
 pub use crate::refusals::Numbers;
-pub use crate::rewriter::{Rewriting, rewrite};
-pub use crate::writer::{Routing, WriteFault, Writing, write};
+pub use crate::rewriter::{RewriteFault, rewrite};
+pub use crate::writer::{Given, Routing, WriteFault, write};
