@@ -68,7 +68,7 @@ record Kept (o : FeedOutcome) (n : ℕ) (f : Fields) : Type 0 where
   size : length (take n o.state.kept) ≡ n
 
 message_not_refusal : (f : FeedRefusal) (n : ℕ) (g : Fields) → refused f ≡ message n g → ⊥
-message_not_refusal f n g e = let z : ◌≡◌ {A = ℕ} 0 1 = cc in omega arith
+message_not_refusal f n g e = cc
 
 still_no_message : (t : Stand) (n : ℕ) (f : Fields) → standing t ≡ message n f → ⊥
 still_no_message inside n f e = message_not_nothing n f (sym e)

@@ -20,10 +20,10 @@ use Rattle.feed.proofs.TakingLaws.{taking_nil, taking_cons}
 -- ---- findings differ
 
 pub message_not_nothing : (n : ℕ) (f : Fields) → message n f ≡ nothing → ⊥
-message_not_nothing n f e = let z : ◌≡◌ {A = ℕ} 0 1 = cc in omega arith
+message_not_nothing n f e = cc
 
 pub refusal_not_nothing : (f : FeedRefusal) → refused f ≡ nothing → ⊥
-refusal_not_nothing f e = let z : ◌≡◌ {A = ℕ} 0 1 = cc in omega arith
+refusal_not_nothing f e = cc
 
 pub refused_not_going : (t : Stand) (f : FeedRefusal) → t ≡ refused f → standing t ≡ nothing → ⊥
 refused_not_going t f e o = refusal_not_nothing f (ap standing (sym e) ∙ o)

@@ -4,7 +4,6 @@ use mathlib.Core.Bool.{Bool, true, false}
 use mathlib.Core.List.{List}
 use mathlib.Core.Path.{◌≡◌, refl, sym, ◌∙◌}
 use Prim.Native.Nat.{ℕ, ◌≤◌, ◌<◌}
-use native.Mathlib.Omega.{arith}
 use borrow.Author.Tests.{ltb-true, ltb-false}
 use lib.Dec.{ltb}
 use lib.ListN.{length}
@@ -17,13 +16,13 @@ use Rattle.feed.proofs.VerdictLaws.{verdict_by, verdict_too_long, verdict_more, 
 -- ---- verdicts differ
 
 pub more_not_complete : (f : Fields) → more ≡ complete f → ⊥
-more_not_complete f e = let z : ◌≡◌ {A = ℕ} 0 1 = cc in omega arith
+more_not_complete f e = cc
 
 pub refused_not_complete : (f : FeedRefusal) (g : Fields) → refused f ≡ complete g → ⊥
-refused_not_complete f g e = let z : ◌≡◌ {A = ℕ} 0 1 = cc in omega arith
+refused_not_complete f g e = cc
 
 pub more_not_refused : (f : FeedRefusal) → more ≡ refused f → ⊥
-more_not_refused f e = let z : ◌≡◌ {A = ℕ} 0 1 = cc in omega arith
+more_not_refused f e = cc
 
 pub same_refusal : (f g : FeedRefusal) → refused f ≡ refused g → f ≡ g
 same_refusal f g e = cc
