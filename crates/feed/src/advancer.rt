@@ -26,6 +26,7 @@ pub fn advance(kept: &mut [u8; Feed::ROOM], beside: Beside, piece: &[u8]) -> Ste
 }
 
 // Past the heading, the bytes up to the announced length.
+// From here on the bytes kept and their count are two parameters: a struct around the `&mut` would need a clause in each function, that it still lends the same bytes.
 fn grow(kept: &mut [u8; Feed::ROOM], count: usize, piece: &[u8]) -> Step
     requires { (count < room) × (0 < length piece.now) }
     ensures { told_step result kept.new ≡ taking (opened kept.old count) piece.now }

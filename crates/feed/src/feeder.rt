@@ -7,6 +7,7 @@ use crate::closer::close;
 use crate::refusal::Refusal;
 use crate::step::{Beside, Message, Standing};
 
+// The bytes and their count stand apart: C lends the bytes alone, and `Takes` fixes those past the count too.
 #[derive(Clone, Copy)]
 pub struct Feed {
     pub kept: [u8; Feed::ROOM],
