@@ -12,11 +12,9 @@ use Rattle.feed.specs.Verdict.{FeedRefusal, Verdict, more, complete, refused}
 use Rattle.feed.specs.declared.refusal.Refusal.TheVariants.{Cut}
 use Rattle.feed.specs.declared.step.Standing.TheVariants.{Refused}
 use Rattle.feed.proofs.OnlyLaws.{untold_standing_lem, untold_standing, untold_found, untold_found_lem, untold_feed_refusal_lem, same_feed, only_fresh, only_takes, only_ends}
-use Rattle.feed.proofs.RefusedLaws.{whole_not_refused}
 use Rattle.feed.proofs.RunLaws.{Byte, repeats, goes_in, byte}
 use Rattle.feed.proofs.StandLaws.{still_as, refused_takes, end_none, end_some}
 use Rattle.feed.proofs.TakingLaws.{taking_nil, taking_cons}
-use Rattle.feed.proofs.UseLaws.{refusal_not_nothing}
 
 -- ---- a refusal that is told stands
 
@@ -27,12 +25,9 @@ pub still_stands : (s : State) (f : FeedRefusal) → Stands (still s) f
 still_stands s f = go s.stand refl
   where
     go : (t : Stand) → s.stand ≡ t → standing s.stand ≡ refused f → s.stand ≡ refused f
-    go inside e r = absurd (refusal_not_nothing f (sym r ∙ ap standing e))
-    go whole e r = absurd (refusal_not_nothing f (sym r ∙ ap standing e))
-    go (refused g) e r = let same : ◌≡◌ {A = Finding} (refused g) (refused f) = ap standing (sym e) ∙ r in e ∙ again g same
-      where
-        again : (g : FeedRefusal) → ◌≡◌ {A = Finding} (refused g) (refused f) → ◌≡◌ {A = Stand} (refused g) (refused f)
-        again g q = cc
+    go inside e r = cc (ap standing e)
+    go whole e r = cc (ap standing e)
+    go (refused g) e r = cc (ap standing e)
 
 closing_stands : (v : Verdict) (k : List ℕ) (n : ℕ) (f : FeedRefusal) (later : FeedOutcome) → Stands later f
     → Stands (further_by (finding_by v n) (closing v k n 1) later) f
@@ -78,7 +73,7 @@ Tells o f = o.state.stand ≡ refused f → o.finding ≡ refused f
 closing_tells : (v : Verdict) (k : List ℕ) (n : ℕ) (f : FeedRefusal) (later : FeedOutcome) → Tells later f
     → Tells (further_by (finding_by v n) (closing v k n 1) later) f
 closing_tells more k n f later h = h
-closing_tells (complete g) k n f later h = λ e. absurd (whole_not_refused f e)
+closing_tells (complete g) k n f later h = λ e. cc
 closing_tells (refused g) k n f later h = λ e. ap standing e
 
 taking_tells : (piece : List ℕ) (s : State) (f : FeedRefusal) → Tells (taking s piece) f

@@ -12,7 +12,7 @@ use crate::feeder::Feed;
 use crate::filler::{fill, lay};
 use crate::refusal::Refusal;
 use crate::step::{Beside, Step};
-use envelope::{Announcement, Envelope, announce};
+use envelope::{Envelope, announce};
 
 // `Feed::take` where the feed is lent in parts: the bytes kept, and what stands beside them.
 // What follows for a caller is said too: no call uses more bytes than the longest message has or finds a longer one, nor, where the count tells the place of what stands, points past it.
@@ -26,6 +26,7 @@ pub fn advance(kept: &mut [u8; Feed::ROOM], beside: Beside, piece: &[u8]) -> Ste
 }
 
 // Past the heading, the bytes up to the announced length.
+// From here on the bytes kept and their count are two parameters: a struct around the `&mut` would need a clause in each function, that it still lends the same bytes.
 fn grow(kept: &mut [u8; Feed::ROOM], count: usize, piece: &[u8]) -> Step
     requires { (count < room) × (0 < length piece.now) }
     ensures { told_step result kept.new ≡ taking (opened kept.old count) piece.now }
@@ -55,11 +56,9 @@ fn through_heading(kept: &mut [u8; Feed::ROOM], count: usize, piece: &[u8]) -> S
 fn announced(message: &[u8]) -> Result<Option<usize>, Refusal>
     ensures { Heading message.now result }
 {
-    match announce(message) {
-        Announcement::Unfinished => Ok(None),
-        Announcement::Refused(refusal) => Err(Refusal::MessageRefused(refusal)),
-        Announcement::Length(whole) if whole <= Feed::ROOM => Ok(Some(whole)),
-        Announcement::Length(_) => Err(Refusal::TooLong),
+    match announce(message)? {
+        Some(whole) if Feed::ROOM < whole => Err(Refusal::TooLong),
+        length => Ok(length),
     }
 }
 

@@ -7,6 +7,7 @@ use crate::closer::close;
 use crate::refusal::Refusal;
 use crate::step::{Beside, Message, Standing};
 
+// The bytes and their count stand apart: C lends the bytes alone, and `Takes` fixes those past the count too.
 #[derive(Clone, Copy)]
 pub struct Feed {
     pub kept: [u8; Feed::ROOM],
@@ -43,32 +44,26 @@ impl Feed {
     }
 
     // Uses bytes of the piece until something is found. What is left of it goes into the next call.
-    pub fn take(self, piece: &[u8]) -> Taken
+    pub fn take(mut self, piece: &[u8]) -> Taken
         ensures { Takes self piece.now result }
     {
-        let mut kept = self.kept;
-        let step = advance(&mut kept, self.beside, piece);
+        let step = advance(&mut self.kept, self.beside, piece);
+        self.beside = step.beside;
         Taken {
-            feed: Feed {
-                kept,
-                beside: step.beside,
-            },
+            feed: self,
             used: step.used,
             found: step.found,
         }
     }
 
     // The end of the bytes: no refusal between messages.
-    pub fn end(self) -> Ended
+    pub fn end(mut self) -> Ended
         ensures { Ends self result }
     {
-        let kept = self.kept;
         let step = close(self.beside);
+        self.beside = step.beside;
         Ended {
-            feed: Feed {
-                kept,
-                beside: step.beside,
-            },
+            feed: self,
             found: step.found,
         }
     }

@@ -9,7 +9,7 @@ ghost use Rattle.feed.specs.Verdict.{room, settled};
 use crate::feeder::Feed;
 use crate::refusal::Refusal;
 use crate::step::Step;
-use envelope::{Envelope, Reading, read};
+use envelope::{Envelope, read};
 
 // The heading has passed, and announced a whole of so many bytes.
 pub(crate) fn fill(
@@ -35,10 +35,7 @@ pub(crate) fn fill(
 fn judged(message: &[u8]) -> Result<Option<Envelope>, Refusal>
     ensures { told_verdict result ≡ settled (reading message.now) }
 {
-    match read(message) {
-        Reading::Accepted(envelope) => Ok(Some(envelope)),
-        Reading::Refused(refusal) => Err(Refusal::MessageRefused(refusal)),
-    }
+    Ok(Some(read(message)?))
 }
 
 // A part goes in from a place.

@@ -10,6 +10,7 @@ use crate::feeder::Feed;
 use crate::refusal::Refusal;
 use envelope::Envelope;
 
+// By name, as a Result of a flag would not say which of the two that go on is whole.
 #[derive(Clone, Copy)]
 pub enum Standing {
     // so many bytes of a message are in; between messages none
