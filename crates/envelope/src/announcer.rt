@@ -7,28 +7,17 @@ ghost use Rattle.envelope.specs.Layout.{header_size};
 
 use crate::fields::Envelope;
 use crate::numbers::{three_at, wide};
-use crate::reader::{Heading, Refusal, judge_heading};
+use crate::reader::{Refusal, judge_heading};
 
-#[derive(Clone, Copy)]
-pub enum Announcement {
-    // fewer bytes than a header has
-    Unfinished,
-    Refused(Refusal),
-    // the length of the whole message
-    Length(usize),
-}
-
-// What follows the header is not looked at.
-pub fn announce(bytes: &[u8]) -> Announcement
+// The length of the whole message, or nothing yet of fewer bytes than a header has. What follows the header is not looked at.
+pub fn announce(bytes: &[u8]) -> Result<Option<usize>, Refusal>
     ensures { Announces bytes.now result }
 {
     if bytes.len() < Envelope::HEADER_SIZE {
-        return Announcement::Unfinished;
+        return Ok(None);
     }
-    match judge_heading(bytes) {
-        Heading::Refused(refusal) => Announcement::Refused(refusal),
-        Heading::Passed => Announcement::Length(announced_length(bytes)),
-    }
+    judge_heading(bytes)?;
+    Ok(Some(announced_length(bytes)))
 }
 
 // 17 + V + D + 4

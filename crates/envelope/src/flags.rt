@@ -2,12 +2,7 @@
 ghost use Rattle.std.specs.Prelude.{◌≡◌};
 ghost use Rattle.envelope.specs.Flags.{bad_flags, TellsTime, TellsEncryption, TellsCompression, TellsKind};
 
-// The integrity kinds.
-pub const KIND_NONE: u8 = 0;
-
-pub const KIND_CRC: u8 = 1;
-
-const KIND_UNASSIGNED: u8 = 3;
+use crate::fields::Kind;
 
 pub fn time_is_absolute(flags: u8) -> bool
     ensures { TellsTime flags result }
@@ -27,17 +22,19 @@ pub fn is_compressed(flags: u8) -> bool
     flags / 4 % 2 == 1
 }
 
-pub fn kind(flags: u8) -> u8
+pub fn kind(flags: u8) -> Kind
     ensures { TellsKind flags result }
 {
-    flags / 8 % 4
+    match flags / 8 % 4 {
+        0 => Kind::None,
+        1 => Kind::Crc,
+        2 => Kind::Application,
+        _ => Kind::Unassigned,
+    }
 }
 
 pub(crate) fn bad_flags(flags: u8) -> bool
     ensures { result ≡ bad_flags flags }
 {
-    if flags / 32 != 0 {
-        return true;
-    }
-    kind(flags) == KIND_UNASSIGNED
+    flags / 32 != 0 || kind(flags) == Kind::Unassigned
 }

@@ -5,25 +5,25 @@ ghost use Rattle.envelope.specs.Numbers.{TwoBytes, ThreeBytes, FourBytes, two_at
 pub fn two_bytes(a: u8, b: u8) -> u16
     ensures { TwoBytes a b result }
 {
-    (wide(a) * 256 + wide(b)) as u16
+    u16::from_be_bytes([a, b])
 }
 
 pub fn three_bytes(a: u8, b: u8, c: u8) -> u32
     ensures { ThreeBytes a b c result }
 {
-    wide(a) * 65536 + wide(b) * 256 + wide(c)
+    u32::from_be_bytes([0, a, b, c])
 }
 
 pub fn four_bytes(a: u8, b: u8, c: u8, d: u8) -> u32
     ensures { FourBytes a b c d result }
 {
-    wide(a) * 16777216 + wide(b) * 65536 + wide(c) * 256 + wide(d)
+    u32::from_be_bytes([a, b, c, d])
 }
 
 pub fn two_digits(number: u16) -> [u8; 2]
     ensures { TwoDigits number result }
 {
-    [(number / 256) as u8, (number % 256) as u8]
+    number.to_be_bytes()
 }
 
 // Three bytes do not hold every number.
@@ -31,24 +31,17 @@ pub(crate) fn three_digits(number: u32) -> [u8; 3]
     requires { number < 16777216 }
     ensures { result ≡ in_three number }
 {
-    [
-        (number / 65536) as u8,
-        (number / 256 % 256) as u8,
-        (number % 256) as u8,
-    ]
+    let [_, a, b, c] = number.to_be_bytes();
+    [a, b, c]
 }
 
 pub fn four_digits(number: u32) -> [u8; 4]
     ensures { FourDigits number result }
 {
-    [
-        (number / 16777216) as u8,
-        (number / 65536 % 256) as u8,
-        (number / 256 % 256) as u8,
-        (number % 256) as u8,
-    ]
+    number.to_be_bytes()
 }
 
+#[tactic(auto, unfolding(crate::specs::Numbers::two_at))]
 pub(crate) fn two_at(bytes: &[u8], place: usize) -> u16
     requires { place + 2 ≤ length bytes.now }
     ensures { result ≡ two_at bytes.now place }
@@ -56,6 +49,7 @@ pub(crate) fn two_at(bytes: &[u8], place: usize) -> u16
     two_bytes(bytes[place], bytes[place + 1])
 }
 
+#[tactic(auto, unfolding(crate::specs::Numbers::three_at))]
 pub(crate) fn three_at(bytes: &[u8], place: usize) -> u32
     requires { place + 3 ≤ length bytes.now }
     ensures { result ≡ three_at bytes.now place }
@@ -63,6 +57,7 @@ pub(crate) fn three_at(bytes: &[u8], place: usize) -> u32
     three_bytes(bytes[place], bytes[place + 1], bytes[place + 2])
 }
 
+#[tactic(auto, unfolding(crate::specs::Numbers::four_at))]
 pub(crate) fn four_at(bytes: &[u8], place: usize) -> u32
     requires { place + 4 ≤ length bytes.now }
     ensures { result ≡ four_at bytes.now place }

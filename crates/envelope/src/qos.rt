@@ -10,12 +10,6 @@ pub struct Qos {
     pub class: u8,
 }
 
-#[derive(Clone, Copy)]
-pub enum Joining {
-    Joined(u16),
-    DoesNotFit,
-}
-
 pub fn split(qos: u16) -> Qos
     ensures { Splits qos result }
 {
@@ -28,29 +22,24 @@ pub fn split(qos: u16) -> Qos
     }
 }
 
-pub fn join(qos: Qos) -> Joining
+// Nothing where a number does not fit its bits.
+#[tactic(auto, unfolding(crate::specs::Qos::joining))]
+pub fn join(qos: Qos) -> Option<u16>
     ensures { Joins qos result }
 {
-    if qos.service_request >= 8 {
-        return Joining::DoesNotFit;
+    if qos.service_request < 8
+        && qos.special_handling < 16
+        && qos.network_preference < 8
+        && qos.priority < 8
+        && qos.class < 8
+    {
+        return Some(
+            u16::from(qos.service_request) * 8192
+                + u16::from(qos.special_handling) * 512
+                + u16::from(qos.network_preference) * 64
+                + u16::from(qos.priority) * 8
+                + u16::from(qos.class),
+        );
     }
-    if qos.special_handling >= 16 {
-        return Joining::DoesNotFit;
-    }
-    if qos.network_preference >= 8 {
-        return Joining::DoesNotFit;
-    }
-    if qos.priority >= 8 {
-        return Joining::DoesNotFit;
-    }
-    if qos.class >= 8 {
-        return Joining::DoesNotFit;
-    }
-    Joining::Joined(
-        (qos.service_request as u16) * 8192
-            + (qos.special_handling as u16) * 512
-            + (qos.network_preference as u16) * 64
-            + (qos.priority as u16) * 8
-            + (qos.class as u16),
-    )
+    None
 }

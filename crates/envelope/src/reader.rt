@@ -6,10 +6,10 @@ ghost use Rattle.envelope.specs.Reading.{header_of, reading_whole};
 ghost use Rattle.envelope.specs.Told.{told_header, told, NumbersFault, Reads};
 ghost use Rattle.envelope.specs.Helpers.{told_heading};
 
-use crate::addresses::{FoundAddressing, addressing_of};
+use crate::addresses::addressing_of;
 use crate::fields::{Envelope, Header, Part};
 use crate::flags;
-use crate::integrity_field::{FoundIntegrity, integrity_of};
+use crate::integrity_field::integrity_of;
 use crate::numbers::{four_at, three_at, two_at, wide};
 
 // The rules of reading, in their order.
@@ -31,61 +31,47 @@ pub struct Refusal {
     pub place: usize,
 }
 
-#[derive(Clone, Copy)]
-pub enum Reading {
-    Accepted(Envelope),
-    Refused(Refusal),
-}
-
-#[derive(Clone, Copy)]
-pub(crate) enum Heading {
-    Passed,
-    Refused(Refusal),
-}
-
-pub fn read(bytes: &[u8]) -> Reading
+pub fn read(bytes: &[u8]) -> Result<Envelope, Refusal>
     ensures { Reads bytes.now result }
 {
     if bytes.len() < Envelope::LEAST_SIZE {
-        return Reading::Refused(Refusal {
+        return Err(Refusal {
             fault: Fault::TooShort,
             place: bytes.len(),
         });
     }
-    match judge_heading(bytes) {
-        Heading::Refused(refusal) => Reading::Refused(refusal),
-        Heading::Passed => read_whole(bytes),
-    }
+    judge_heading(bytes)?;
+    read_whole(bytes)
 }
 
 // Rules 2 to 4, on the header alone.
-pub(crate) fn judge_heading(bytes: &[u8]) -> Heading
+pub(crate) fn judge_heading(bytes: &[u8]) -> Result<(), Refusal>
     requires { header_size ≤ length bytes.now }
     ensures { told_heading result ≡ heading bytes.now }
 {
     if bytes[Envelope::VERSION_PLACE] != Envelope::HEADER_VERSION {
-        return Heading::Refused(Refusal {
+        return Err(Refusal {
             fault: Fault::WrongVersion,
             place: Envelope::VERSION_PLACE,
         });
     }
     if flags::bad_flags(bytes[Envelope::FLAGS_PLACE]) {
-        return Heading::Refused(Refusal {
+        return Err(Refusal {
             fault: Fault::BadFlags,
             place: Envelope::FLAGS_PLACE,
         });
     }
     if bad_variable_size(bytes[Envelope::VARIABLE_SIZE_PLACE]) {
-        return Heading::Refused(Refusal {
+        return Err(Refusal {
             fault: Fault::BadVariableSize,
             place: Envelope::VARIABLE_SIZE_PLACE,
         });
     }
-    Heading::Passed
+    Ok(())
 }
 
 // Rules 5 to 7, on the whole message.
-fn read_whole(bytes: &[u8]) -> Reading
+fn read_whole(bytes: &[u8]) -> Result<Envelope, Refusal>
     requires { (least_size ≤ length bytes.now) × (heading bytes.now ≡ passed) }
     ensures { told result ≡ reading_whole bytes.now }
 {
@@ -93,32 +79,18 @@ fn read_whole(bytes: &[u8]) -> Reading
     let d = three_at(bytes, Envelope::DATA_LENGTH_PLACE) as usize;
     let place = Envelope::HEADER_SIZE + v + d;
     if place + Envelope::FIELD_SIZE != bytes.len() {
-        return Reading::Refused(Refusal {
+        return Err(Refusal {
             fault: Fault::WrongLength,
             place: Envelope::DATA_LENGTH_PLACE,
         });
     }
-    match addressing_of(bytes, v) {
-        FoundAddressing::Refused => Reading::Refused(Refusal {
-            fault: Fault::BadAddresses,
-            place: Envelope::ADDRESSES_PLACE,
-        }),
-        FoundAddressing::Good(addressing) => {
-            match integrity_of(bytes, flags::kind(bytes[Envelope::FLAGS_PLACE]), place) {
-                FoundIntegrity::Refused => Reading::Refused(Refusal {
-                    fault: Fault::BadIntegrity,
-                    place,
-                }),
-                FoundIntegrity::Good(integrity) => {
-                    let body = Part {
-                        place: Envelope::HEADER_SIZE + v,
-                        size: d,
-                    };
-                    Reading::Accepted(Envelope::new(header_of(bytes), addressing, body, integrity))
-                }
-            }
-        }
-    }
+    let addressing = addressing_of(bytes, v)?;
+    let integrity = integrity_of(bytes, flags::kind(bytes[Envelope::FLAGS_PLACE]), place)?;
+    let body = Part {
+        place: Envelope::HEADER_SIZE + v,
+        size: d,
+    };
+    Ok(Envelope::new(header_of(bytes), addressing, body, integrity))
 }
 
 fn header_of(bytes: &[u8]) -> Header
@@ -147,12 +119,12 @@ fn bad_variable_size(v: u8) -> bool
     Envelope::LARGEST_VARIABLE < v as usize
 }
 
-impl Fault {
-    // The number of the table of refusals.
-    pub fn number(self) -> u8
-        ensures { NumbersFault self result }
-    {
-        match self {
+// The number of the table of refusals.
+impl From<Fault> for u8 {
+    ghost from_gives = { NumbersFault };
+
+    fn from(fault: Fault) -> u8 {
+        match fault {
             Fault::TooShort => 1,
             Fault::WrongVersion => 2,
             Fault::BadFlags => 3,

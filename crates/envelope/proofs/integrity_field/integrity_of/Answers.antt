@@ -1,9 +1,8 @@
--- `integrity_field::integrity_of` is rule 7: each kind has its own test, and an application may hold any number.
-use Rattle.std.proofs.Common.{◌≡◌, ℕ, take, sym, ap, ◌∙◌, arith, eq-eqb, ne_eqb}
+use Rattle.std.proofs.Common.{◌≡◌, ℕ, take, inl, inr, sym, ap, ◌∙◌, eq-eqb, ne_eqb}
 use native.Mathlib.Nat.{sub-zero}
+use Rattle.sum.specs.Crc.{crc32}
 use Rattle.envelope.specs.IntegrityField.{bad_integrity}
 use Rattle.envelope.specs.Reading.{integrity_of}
-use Rattle.sum.specs.Crc.{crc32}
 use Rattle.envelope.proofs.integrity_field.integrity_of.Goals as goal
 use Rattle.envelope.proofs.integrity_field.integrity_of.Goals.{After-crc}
 
@@ -13,26 +12,24 @@ sum_before c = c.crc.ensures ∙ ap (λ (n : ℕ). crc32 (take n c.args.bytes.no
 
 pub returns-then-held-eq0 : goal.returns-then-held-eq0
 unfolding bad_integrity integrity_of
-returns-then-held-eq0 c = rw (c.if-kind-eq-KIND_NONE.true, sym c.four_at-held.ensures ∙ c.if-held-eq0.true)
+returns-then-held-eq0 c = rw (c.in-None.is, sym c.four_at-held.ensures ∙ c.if-held-eq0.true)
 
-pub returns-then-kind-eq-KIND_NONE : goal.returns-then-kind-eq-KIND_NONE
+pub returns-else-held-eq0 : goal.returns-else-held-eq0
 unfolding bad_integrity integrity_of
-returns-then-kind-eq-KIND_NONE c = rw (c.if-kind-eq-KIND_NONE.true, ne_eqb _ _ (λ e. c.if-held-eq0.false (c.four_at-held.ensures ∙ e)))
+returns-else-held-eq0 c = rw (c.in-None.is, ne_eqb _ _ (λ e. c.if-held-eq0.false (c.four_at-held.ensures ∙ e)))
 
 pub returns-then-held-crc : goal.returns-then-held-crc
 unfolding bad_integrity integrity_of
 returns-then-held-crc c =
     let held = c.four_at-held.ensures in
-    rw (c.if-kind-eq-KIND_CRC.true, eq-eqb _ _ (sym held ∙ c.if-held-crc.true ∙ sum_before (goal.at.returns-then-held-crc c).After-crc), held)
+    rw (c.in-Crc.is, eq-eqb _ _ (sym held ∙ c.if-held-crc.true ∙ sum_before (goal.at.returns-then-held-crc c).After-crc), held)
 
-pub returns-then-kind-eq-KIND_CRC : goal.returns-then-kind-eq-KIND_CRC
+pub returns-else-held-crc : goal.returns-else-held-crc
 unfolding bad_integrity integrity_of
-returns-then-kind-eq-KIND_CRC c =
+returns-else-held-crc c =
     let held = c.four_at-held.ensures in
-    rw (c.if-kind-eq-KIND_CRC.true, ne_eqb _ _ (λ e. c.if-held-crc.false (held ∙ e ∙ sym (sum_before (goal.at.returns-then-kind-eq-KIND_CRC c).After-crc))))
+    rw (c.in-Crc.is, ne_eqb _ _ (λ e. c.if-held-crc.false (held ∙ e ∙ sym (sum_before (goal.at.returns-else-held-crc c).After-crc))))
 
-pub returns : goal.returns
+pub returns-in-Application : goal.returns-in-Application
 unfolding bad_integrity integrity_of
-returns c =
-    let k : c.args.kind ≡ 2 = omega arith in
-    rw (k, c.four_at-held.ensures)
+returns-in-Application c = elim c.in-Application.is [ inl e ↦ rw (e, c.four_at-held.ensures) | inr e ↦ rw (e, c.four_at-held.ensures) ]

@@ -3,20 +3,20 @@ use Rattle.std.proofs.Common.{sym, ◌∙◌, eq-eqb, ne_eqb}
 use Rattle.envelope.specs.Lateness.{lateness_of}
 use Rattle.envelope.proofs.lateness.judge.Goals as goal
 
-pub returns-then-ttl-eq0 : goal.returns-then-ttl-eq0
+pub returns-in_default : goal.returns-in_default
 unfolding lateness_of
-returns-then-ttl-eq0 c = rw (c.in-Present.is, eq-eqb _ _ c.if-ttl-eq0.true)
+returns-in_default c = rw c.in_default.is
+
+pub returns-then-addressing-eq0 : goal.returns-then-addressing-eq0
+unfolding lateness_of
+returns-then-addressing-eq0 c = rw (c.in-Some.is, eq-eqb _ _ c.if-addressing-eq0.true)
 
 pub returns-then-late_after : goal.returns-then-late_after
 unfolding lateness_of
 returns-then-late_after c =
-    rw (c.in-Present.is, ne_eqb _ _ c.if-ttl-eq0.false, sym c.late_after.ensures ∙ c.if-late_after.true)
+    rw (c.in-Some.is, ne_eqb _ _ c.if-addressing-eq0.false, sym c.late_after.ensures ∙ c.if-late_after.true)
 
-pub returns-in-Absent : goal.returns-in-Absent
+pub returns : goal.returns
 unfolding lateness_of
-returns-in-Absent c = rw c.in-Absent.is
-
-pub returns-else-late_after : goal.returns-else-late_after
-unfolding lateness_of
-returns-else-late_after c =
-    rw (c.in-Present.is, ne_eqb _ _ c.if-ttl-eq0.false, sym c.late_after.ensures ∙ c.if-late_after.false)
+returns c =
+    rw (c.in-Some.is, ne_eqb _ _ c.if-addressing-eq0.false, sym c.late_after.ensures ∙ c.if-late_after.false)

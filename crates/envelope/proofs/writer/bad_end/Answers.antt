@@ -9,6 +9,6 @@ pub returns-then-end-ge-LARGEST_ADDRESS : goal.returns-then-end-ge-LARGEST_ADDRE
 unfolding bad_end
 returns-then-end-ge-LARGEST_ADDRESS c = simp (le-leb _ _ c.if-end-ge-LARGEST_ADDRESS.true)
 
-pub returns : goal.returns
+pub returns-else-end-ge-LARGEST_ADDRESS : goal.returns-else-end-ge-LARGEST_ADDRESS
 unfolding bad_end
-returns c = rw (lt-leb _ _ c.if-end-ge-LARGEST_ADDRESS.false, zero_inside, c.first_zero.ensures)
+returns-else-end-ge-LARGEST_ADDRESS c = rw (lt-leb _ _ c.if-end-ge-LARGEST_ADDRESS.false, zero_inside, c.first_zero.ensures)

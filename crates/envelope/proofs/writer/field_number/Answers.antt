@@ -1,16 +1,15 @@
--- `writer::field_number` picks by kind: nothing, the sum of what stands before, or the number given.
-use Rattle.std.proofs.Common.{eq-eqb, ne_eqb}
+use Rattle.std.proofs.Common.{inl, inr}
 use Rattle.envelope.specs.Message.{field_number}
 use Rattle.envelope.proofs.writer.field_number.Goals as goal
 
-pub returns-then-kind-eq-KIND_NONE : goal.returns-then-kind-eq-KIND_NONE
+pub returns-in-None : goal.returns-in-None
 unfolding field_number
-returns-then-kind-eq-KIND_NONE c = rw (eq-eqb _ _ c.if-kind-eq-KIND_NONE.true)
+returns-in-None c = rw c.in-None.is
 
-pub returns-then-kind-eq-KIND_CRC : goal.returns-then-kind-eq-KIND_CRC
+pub returns-in-Crc : goal.returns-in-Crc
 unfolding field_number
-returns-then-kind-eq-KIND_CRC c = rw (ne_eqb _ _ c.if-kind-eq-KIND_NONE.false, eq-eqb _ _ c.if-kind-eq-KIND_CRC.true, c.crc.ensures)
+returns-in-Crc c = rw (c.in-Crc.is, c.crc.ensures)
 
-pub returns : goal.returns
+pub returns-in-Application : goal.returns-in-Application
 unfolding field_number
-returns c = rw (ne_eqb _ _ c.if-kind-eq-KIND_NONE.false, ne_eqb _ _ c.if-kind-eq-KIND_CRC.false)
+returns-in-Application c = elim c.in-Application.is [ inl e ↦ rw e | inr e ↦ rw e ]

@@ -1,16 +1,14 @@
--- `writer::stray_integrity` is rule 14.
-use Rattle.std.proofs.Common.{eq-eqb, ne_eqb}
+-- `writer::stray_integrity` is rule 14: kinds none and CRC leave no number to the application.
+use Rattle.std.proofs.Common.{inl, inr, sym}
+use mathlib.Core.Bool.{and-true}
+use Rattle.envelope.proofs.BoolLaws.{and-false}
 use Rattle.envelope.specs.Writing.{stray_integrity}
 use Rattle.envelope.proofs.writer.stray_integrity.Goals as goal
 
-pub returns-then-application-eq0 : goal.returns-then-application-eq0
+pub returns-in-None : goal.returns-in-None
 unfolding stray_integrity
-returns-then-application-eq0 c = rw (eq-eqb _ _ c.if-application-eq0.true)
+returns-in-None c = elim c.in-None.is [ inl e ↦ rw e (sym (and-true _)) | inr e ↦ rw e (sym (and-true _)) ]
 
-pub returns-then-kind-eq-KIND_NONE : goal.returns-then-kind-eq-KIND_NONE
+pub returns-in-Application : goal.returns-in-Application
 unfolding stray_integrity
-returns-then-kind-eq-KIND_NONE c = rw (ne_eqb _ _ c.if-application-eq0.false, eq-eqb _ _ c.if-kind-eq-KIND_NONE.true)
-
-pub returns : goal.returns
-unfolding stray_integrity
-returns c = rw (ne_eqb _ _ c.if-application-eq0.false, ne_eqb _ _ c.if-kind-eq-KIND_NONE.false)
+returns-in-Application c = elim c.in-Application.is [ inl e ↦ rw e (sym (and-false _)) | inr e ↦ rw e (sym (and-false _)) ]

@@ -1,7 +1,7 @@
--- `addresses::ends_of` scans for two zeros: each refusal is a scan that fails, and what is left is one that holds.
+-- `addresses::sizes_of` scans for two zeros: each refusal is a scan that fails, and what is left is one that holds.
 use Rattle.std.proofs.Common.{arith}
 use Rattle.envelope.proofs.AddressLaws.{scanned_two, not_two, destination_is}
-use Rattle.envelope.proofs.addresses.ends_of.Goals as goal
+use Rattle.envelope.proofs.addresses.sizes_of.Goals as goal
 
 pub returns-then-source-ge-LARGEST_ADDRESS : goal.returns-then-source-ge-LARGEST_ADDRESS
 returns-then-source-ge-LARGEST_ADDRESS c =
