@@ -1,4 +1,5 @@
 pub mod AmongLaws
+pub mod CaseLaws
 pub mod KeptLaws
 pub mod OnlyLaws
 pub mod RefusingLaws
