@@ -1,5 +1,6 @@
 -- No theorem about feeds is empty: for each that has hypotheses a run in which they hold, computed, and what the theorem then says of it.
 -- M whole and cut after ten bytes, M and C end to end, a heading of another version, C damaged.
+use Rattle.std.specs.Prelude.{Ok, Err, Some, None}
 use mathlib.Core.List.{List, [], ◌∷◌, ◌++◌}
 use mathlib.Core.Path.{◌≡◌, refl, ap, sym}
 use Prim.Native.Nat.{ℕ}
@@ -27,7 +28,6 @@ use Rattle.feed.specs.declared.refusal.Refusal.TheVariants.{MessageRefused, Cut}
 use Rattle.feed.specs.declared.feeder.Ended.{Ended}
 use Rattle.feed.specs.declared.feeder.Feed.{Feed}
 use Rattle.feed.specs.declared.feeder.Taken.{Taken}
-use Rattle.feed.specs.declared.step.Found.TheVariants.{Nothing, Message, Refused as FoundRefused}
 use Rattle.feed.specs.declared.step.Standing.TheVariants.{Inside, Whole, Refused}
 use Rattle.feed.specs.declared.step.Step.{Step}
 use Rattle.exports.specs.Envelopes.{field_numbers}
@@ -49,14 +49,14 @@ run_whole : Calls new_feed M whole_m
 run_whole = one_call M envelope_m (lit≤ tt) starred.a.0
 
 abbrev ten_in : Taken
-ten_in = record { feed = record { kept = (held_by (take 10 M) inside).kept; count = 10; standing = Inside }; used = 10; found = Nothing }
+ten_in = record { feed = record { kept = (held_by (take 10 M) inside).kept; beside = record { count = 10; standing = Inside } }; used = 10; found = Ok None }
 
 takes_ten : Takes new_feed (take 10 M) ten_in
 unfolding taking byte_in verdict announcing
 takes_ten = refl
 
 abbrev rest_in : Taken
-rest_in = record { feed = record { kept = (held_by M whole).kept; count = 21; standing = Whole }; used = 11; found = Message 21 envelope_m }
+rest_in = record { feed = record { kept = (held_by M whole).kept; beside = record { count = 21; standing = Whole } }; used = 11; found = Ok (Some (record { size = 21; envelope = envelope_m })) }
 
 takes_rest : Takes ten_in.feed (drop 10 M) rest_in
 takes_rest = sym feed_cases.cut_at_10
@@ -79,13 +79,13 @@ pub M_cut_anywhere : whole_m ≡ cut_m
 M_cut_anywhere = cut_anywhere new_feed M whole_m cut_m run_whole run_cut
 
 abbrev ended_m : Ended
-ended_m = record { feed = rest_in.feed; found = Nothing }
+ended_m = record { feed = rest_in.feed; found = Ok None }
 
 abbrev cut_feed : Feed
-cut_feed = record { kept = ten_in.feed.kept; count = 10; standing = Refused Cut }
+cut_feed = record { kept = ten_in.feed.kept; beside = record { count = 10; standing = Refused Cut } }
 
 abbrev cut_ended : Ended
-cut_ended = record { feed = cut_feed; found = FoundRefused Cut }
+cut_ended = record { feed = cut_feed; found = Err Cut }
 
 ends_computed : Ends rest_in.feed ended_m × Ends ten_in.feed cut_ended
 unfolding ending
@@ -101,13 +101,13 @@ pub M_as_defined : told_came cut_m ≡ streaming fresh M
 M_as_defined = as_defined new_feed M cut_m run_cut
 
 abbrev ten_step : Step
-ten_step = record { count = 10; standing = Inside; used = 10; found = Nothing }
+ten_step = record { beside = record { count = 10; standing = Inside }; used = 10; found = Ok None }
 
 pub ten_advance : Takes new_feed (take 10 M) ten_in
 ten_advance = advance_is_take new_feed (take 10 M) (held_by (take 10 M) inside).kept ten_step takes_ten
 
 abbrev cut_step : Step
-cut_step = record { count = 10; standing = Refused Cut; used = 0; found = FoundRefused Cut }
+cut_step = record { beside = record { count = 10; standing = Refused Cut }; used = 0; found = Err Cut }
 
 closes_ten : Closes 10 Inside cut_step
 unfolding ending
@@ -134,7 +134,7 @@ between_M : Between (told_feed feed_m)
 between_M = record { roomy = refl; going = refl; none = refl }
 
 abbrev taken_c : Taken
-taken_c = record { feed = record { kept = C ++ drop 23 feed_m.kept; count = 23; standing = Whole }; used = 23; found = Message 23 envelope_c }
+taken_c = record { feed = record { kept = C ++ drop 23 feed_m.kept; beside = record { count = 23; standing = Whole } }; used = 23; found = Ok (Some (record { size = 23; envelope = envelope_c })) }
 
 abbrev cameMC : Came
 cameMC = call_then (taken_whole M envelope_m (lit≤ tt) starred.a.0) (call_then taken_c (no_calls taken_c.feed))
@@ -177,10 +177,10 @@ unfolding verdict announcing heading
 verdict_17 = refl
 
 abbrev sixteen_in : Taken
-sixteen_in = record { feed = record { kept = (held_by (take 16 other_version) inside).kept; count = 16; standing = Inside }; used = 16; found = Nothing }
+sixteen_in = record { feed = record { kept = (held_by (take 16 other_version) inside).kept; beside = record { count = 16; standing = Inside } }; used = 16; found = Ok None }
 
 abbrev pub refused_in : Taken
-refused_in = record { feed = record { kept = (held_by (take 17 other_version) inside).kept; count = 17; standing = Refused version3 }; used = 17; found = FoundRefused version3 }
+refused_in = record { feed = record { kept = (held_by (take 17 other_version) inside).kept; beside = record { count = 17; standing = Refused version3 } }; used = 17; found = Err version3 }
 
 pub takes_refused : Takes new_feed other_version refused_in
 takes_refused = refused_at_the_17th.1 new_feed (take 17 other_version) (drop 17 other_version) version3 new_between refl verdict_17
@@ -204,7 +204,7 @@ refused_with_the_17th =
     (t.0 (lit< tt), t.2)
 
 abbrev pub damaged_in : Taken
-damaged_in = record { feed = record { kept = (held_by damaged_c whole).kept; count = 23; standing = Refused wrong_sum }; used = 23; found = FoundRefused wrong_sum }
+damaged_in = record { feed = record { kept = (held_by damaged_c whole).kept; beside = record { count = 23; standing = Refused wrong_sum } }; used = 23; found = Err wrong_sum }
 
 abbrev pub came_of_damaged : Came
 came_of_damaged = call_then damaged_in (no_calls damaged_in.feed)
@@ -223,14 +223,14 @@ where_2_is_told = where_refused new_feed other_version came_of_version3 version3
 
 -- ---- (d)
 
-pub refusal_2_is_kept : refused_in.feed.standing ≡ Refused version3
+pub refusal_2_is_kept : refused_in.feed.beside.standing ≡ Refused version3
 refusal_2_is_kept = refusal_is_kept new_feed version3 other_version refused_in takes_refused refl
 
 abbrev again_in : Taken
-again_in = record { feed = refused_in.feed; used = 0; found = FoundRefused version3 }
+again_in = record { feed = refused_in.feed; used = 0; found = Err version3 }
 
 abbrev again_ended : Ended
-again_ended = record { feed = refused_in.feed; found = FoundRefused version3 }
+again_ended = record { feed = refused_in.feed; found = Err version3 }
 
 repeats_computed : Takes refused_in.feed M again_in × Ends refused_in.feed again_ended
 unfolding taking byte_in ending
@@ -243,15 +243,15 @@ pub restarted_is_new : new_feed ≡ new_feed
 restarted_is_new = restart_is_new new_feed new_feed is_new is_new
 
 pub nothing_lent : (new_feed ≡ new_feed) × (◌≡◌ {A = ℕ} 0 0) × (nothing ≡ nothing)
-nothing_lent = empty_piece new_feed (record { feed = new_feed; used = 0; found = Nothing }) (sym feed_cases.no_bytes)
+nothing_lent = empty_piece new_feed (record { feed = new_feed; used = 0; found = Ok None }) (sym feed_cases.no_bytes)
 
-pub M_ends_between : ended_m ≡ record { feed = rest_in.feed; found = Nothing }
+pub M_ends_between : ended_m ≡ record { feed = rest_in.feed; found = Ok None }
 M_ends_between = end_between rest_in.feed ended_m ends_M (record { roomy = refl; going = refl; none = refl })
 
 ends_ten : Ends ten_in.feed cut_ended
 ends_ten = ends_computed.1
 
-pub ten_ends_inside : cut_ended ≡ record { feed = cut_feed; found = FoundRefused Cut }
+pub ten_ends_inside : cut_ended ≡ record { feed = cut_feed; found = Err Cut }
 ten_ends_inside = end_inside ten_in.feed cut_ended ends_ten (lit< tt)
 
 pub the_end_is_kept : cut_feed.standing ≡ Refused Cut
@@ -290,10 +290,10 @@ found_for_c_is_taken fields =
 
 -- a whole message, in storage whose number for it is none that a call writes
 abbrev whole_feed : Feed
-whole_feed = record { kept = (held_by M whole).kept; count = 21; standing = Whole }
+whole_feed = record { kept = (held_by M whole).kept; beside = record { count = 21; standing = Whole } }
 
 abbrev an_end : Ended
-an_end = record { feed = whole_feed; found = Nothing }
+an_end = record { feed = whole_feed; found = Ok None }
 
 pub end_for_c_is_taken : (exit : List ℕ) → EndsForC (21 ∷ 9 ∷ []) 0 exit → exit ≡ (21 ∷ 255 ∷ [])
 unfolding ending
@@ -313,15 +313,15 @@ few_of_M = uses_few fresh (M ++ M) (fed M whole (message 21 (like_m absent 17 0)
 -- ---- a refusal that comes with the second piece is told by it
 
 abbrev all_but_the17th : Feed
-all_but_the17th = record { kept = (held_by (take 16 (set M 0 3)) inside).kept; count = 16; standing = Inside }
+all_but_the17th = record { kept = (held_by (take 16 (set M 0 3)) inside).kept; beside = record { count = 16; standing = Inside } }
 
 abbrev version_in : Taken
 version_in =
     record {
-      feed = record { kept = (held_by (take 17 (set M 0 3)) inside).kept; count = 17; standing = Refused (MessageRefused (record { fault = WrongVersion; place = 0 })) };
+      feed = record { kept = (held_by (take 17 (set M 0 3)) inside).kept; beside = record { count = 17; standing = Refused (MessageRefused (record { fault = WrongVersion; place = 0 })) } };
       used = 1;
-      found = FoundRefused (MessageRefused (record { fault = WrongVersion; place = 0 }));
+      found = Err (MessageRefused (record { fault = WrongVersion; place = 0 }));
     }
 
-pub version_is_told : version_in.found ≡ FoundRefused (MessageRefused (record { fault = WrongVersion; place = 0 }))
+pub version_is_told : version_in.found ≡ Err (MessageRefused (record { fault = WrongVersion; place = 0 }))
 version_is_told = refusal_is_told all_but_the17th _ (drop 16 (set M 0 3)) version_in (sym feed_cases.no_2_cut) refl

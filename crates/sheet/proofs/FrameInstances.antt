@@ -1,5 +1,6 @@
 -- No theorem of Framing is empty: for each that has hypotheses, a case in which they hold, computed, and what it then says.
 -- The frames of FrameCases, and one that carries the CRC message C.
+use Rattle.std.specs.Prelude.{Ok, Err, None}
 use mathlib.Core.Bool.{true, false}
 use mathlib.Core.List.{List, [], ◌∷◌, ◌++◌}
 use mathlib.Core.Path.{◌≡◌, refl, ap, sym, ◌∙◌}
@@ -14,7 +15,6 @@ use Rattle.envelope.specs.Fields.{Fields, accepted}
 use Rattle.envelope.specs.Flags.{kind_of, kind_crc}
 use Rattle.envelope.specs.Layout.{largest_message}
 use Rattle.envelope.specs.Numbers.{four_at}
-use Rattle.envelope.specs.declared.fields.Addressing.TheVariants.{Absent}
 use Rattle.envelope.specs.declared.fields.Integrity.TheVariants.{None}
 use Rattle.frame.specs.Capturing.{first_size, is_frame, taken_apart}
 use Rattle.frame.specs.Detecting.{CarriesCrc, carried_message}
@@ -29,7 +29,6 @@ use Rattle.frame.specs.declared.unwrapper.Acknowledgment.{Acknowledgment}
 use Rattle.frame.specs.declared.unwrapper.DataMessage.{DataMessage}
 use Rattle.frame.specs.declared.refusal.Refusal.TheVariants.{NoRoom}
 use Rattle.frame.specs.declared.unwrapper.Unwrapped.TheVariants.{Data, Acknowledged}
-use Rattle.frame.specs.declared.wrapper.Wrapped.TheVariants.{Written, Refused}
 use Rattle.frame.proofs.WrapLaws.{past_69}
 use Rattle.sheet.specs.Cases.{C, fields_of_c}
 use Rattle.sheet.specs.FrameCases.{held, held_fields, carrier, reply}
@@ -47,7 +46,7 @@ tells_held =
       envelope =
           record {
             header = record { message_type = 9; version = 1; flags = 0; number = 5; time = 6 };
-            addressing = Absent;
+            addressing = None;
             body = record { place = 17; size = 3 };
             integrity = None;
           };
@@ -56,7 +55,7 @@ tells_held =
 abbrev tells_reply : Acknowledgment
 tells_reply = record { commid = 9; acknowledged = 0x01020304 }
 
-unwraps_carrier : Unwraps carrier (Data tells_held)
+unwraps_carrier : Unwraps carrier (Ok (Data tells_held)
 unwraps_carrier = sym unwrap_cases.data_frame_lem
 
 -- ---- the round trips
@@ -66,19 +65,19 @@ held_wrapped_then_unwrapped = wrapped_then_unwrapped held 0x01020304 37 carrier 
 
 -- what a call with this outcome answers, and what it leaves in a buffer of zeros
 wrote_it : (o : WrapOutcome) (n : ℕ) (s : List ℕ) → o ≡ written s → n ≡ length s
-    → (told_wrapped (Written n) ≡ answer_to_wrapping o) × (put_down s (replicate n 0) ≡ after_wrapping o (replicate n 0))
+    → (told_wrapped (Ok n) ≡ answer_to_wrapping o) × (put_down s (replicate n 0) ≡ after_wrapping o (replicate n 0))
 wrote_it o n s e l = rw e (ap wrote l, refl)
 
-pub held_wrapped_buffer_then_unwrapped : TellsMessage (Data tells_held) carrier 0x01020304 held
+pub held_wrapped_buffer_then_unwrapped : TellsMessage (Ok (Data tells_held) carrier 0x01020304 held
 held_wrapped_buffer_then_unwrapped =
-    wrapped_buffer_then_unwrapped held 0x01020304 (replicate 37 0) carrier (Written 37) 37 (Data tells_held) (wrote_it _ 37 carrier wrap_cases.just_room refl) refl unwraps_carrier
+    wrapped_buffer_then_unwrapped held 0x01020304 (replicate 37 0) carrier (Ok 37) 37 (Ok (Data tells_held)) (wrote_it _ 37 carrier wrap_cases.just_room refl) refl unwraps_carrier
 
 pub reply_written_then_unwrapped : unwrapping reply ≡ acknowledgment 9 0x01020304
 reply_written_then_unwrapped = acknowledged_then_unwrapped 9 0x01020304 17 reply wrap_cases.acknowledges
 
 pub reply_buffer_then_unwrapped : acknowledgment 9 0x01020304 ≡ acknowledgment 9 0x01020304
 reply_buffer_then_unwrapped =
-    acknowledged_buffer_then_unwrapped 9 0x01020304 (replicate 17 0) reply (Written 17) 17 (Acknowledged tells_reply) (wrote_it _ 17 reply wrap_cases.acknowledges refl) refl
+    acknowledged_buffer_then_unwrapped 9 0x01020304 (replicate 17 0) reply (Ok 17) 17 (Ok (Acknowledged tells_reply)) (wrote_it _ 17 reply wrap_cases.acknowledges refl) refl
     (sym unwrap_cases.acknowledged)
 
 bytes_of_carrier : Bytes carrier
@@ -91,17 +90,17 @@ pub carrier_unwrapped_then_wrapped : wrapping held 0x01020304 37 ≡ written car
 carrier_unwrapped_then_wrapped =
     unwrapped_then_wrapped carrier 0x01020304 (record { place = 12; size = 24 }) held_fields 37 bytes_of_carrier unwrap_cases.data_frame_lem (omega arith)
 
-pub carrier_unwrapped_then_wrapped_buffer : (told_wrapped (Written 37) ≡ wrote 37) × (carrier ≡ put_down carrier (replicate 37 0))
+pub carrier_unwrapped_then_wrapped_buffer : (told_wrapped (Ok 37) ≡ wrote 37) × (carrier ≡ put_down carrier (replicate 37 0))
 carrier_unwrapped_then_wrapped_buffer =
-    unwrapped_then_wrapped_buffer carrier tells_held (replicate 37 0) carrier (Written 37) bytes_of_carrier
+    unwrapped_then_wrapped_buffer carrier tells_held (replicate 37 0) carrier (Ok 37) bytes_of_carrier
     unwraps_carrier (omega arith) (wrote_it _ 37 carrier wrap_cases.just_room refl)
 
 pub reply_unwrapped_then_written : acknowledging 9 0x01020304 17 ≡ written reply
 reply_unwrapped_then_written = unwrapped_then_acknowledged reply 9 0x01020304 17 bytes_of_reply unwrap_cases.acknowledged (omega arith)
 
-pub reply_unwrapped_then_written_buffer : (told_wrapped (Written 17) ≡ wrote 17) × (reply ≡ put_down reply (replicate 17 0))
+pub reply_unwrapped_then_written_buffer : (told_wrapped (Ok 17) ≡ wrote 17) × (reply ≡ put_down reply (replicate 17 0))
 reply_unwrapped_then_written_buffer =
-    unwrapped_then_acknowledged_buffer reply tells_reply (replicate 17 0) reply (Written 17) bytes_of_reply (sym unwrap_cases.acknowledged) (omega arith)
+    unwrapped_then_acknowledged_buffer reply tells_reply (replicate 17 0) reply (Ok 17) bytes_of_reply (sym unwrap_cases.acknowledged) (omega arith)
     (wrote_it _ 17 reply wrap_cases.acknowledges refl)
 
 -- ---- which refusals, and what one leaves
@@ -117,7 +116,7 @@ acknowledge_gave_68 = acknowledge_gives 9 0x01020304 16 (plainly 68) wrap_cases.
 
 pub refused_reply_left_the_buffer : replicate {A = ℕ} 16 0 ≡ replicate 16 0
 refused_reply_left_the_buffer =
-    a_refused_frame_writes_nothing (acknowledging 9 0x01020304 16) (replicate 16 0) (replicate 16 0) (Refused NoRoom) (plainly 68)
+    a_refused_frame_writes_nothing (acknowledging 9 0x01020304 16) (replicate 16 0) (replicate 16 0) (Err NoRoom) (plainly 68)
     (sym (ap answer_to_wrapping wrap_cases.no_room_acknowledged), sym (ap (λ (o : WrapOutcome). after_wrapping o (replicate 16 0)) wrap_cases.no_room_acknowledged)) refl
 
 -- ---- what is told of sizes

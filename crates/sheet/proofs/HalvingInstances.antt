@@ -1,5 +1,6 @@
 -- No theorem of find by halving is empty: for each that has hypotheses, a case in which they hold, computed, and what it then says.
 -- The file `two` passes and stands in order.
+use Rattle.std.specs.Prelude.{Ok}
 use mathlib.Core.Bool.{Bool}
 use mathlib.Core.List.{[], ◌∷◌, ◌++◌}
 use mathlib.Core.Logic.{inr}
@@ -22,7 +23,6 @@ use Rattle.golden.specs.Halved.{Earlier, Ascending, NeighboursAscend, SameRecord
 use Rattle.golden.specs.Ordering.{ascends, ordering}
 use Rattle.golden.specs.Making.{record_of}
 use Rattle.golden.specs.Record.{stored_word, is_retired, stored_length, all_zero, bad_length, Judged, good, bad, judging, message_of}
-use Rattle.golden.specs.declared.finder.Finding.TheVariants as answers
 use Rattle.golden.specs.declared.finder.Name.{Name}
 use Rattle.sheet.specs.SmallFiles.{name, two, broken}
 use Rattle.sheet.proofs.Halving.{halved_finds_the_same, neighbours_suffice, halving_gives, halving_passes_on, ascends_is_ascending, ascending_ascends, no_file_opens_none, order_gives, order_passes_on}
@@ -83,7 +83,7 @@ pub order_passed_7_on : reading (message_of (record_at (two ++ broken) 2)) ≡ e
 order_passed_7_on = order_passes_on (two ++ broken) 2 25 (refusal_by 7 17) ordered.bad_record
 
 pub lower_is_found_by_both : SameRecord (found 0 2) (finding two (name 1))
-lower_is_found_by_both = halved_finds_the_same two (sought 1) (answers.Found 0 2) 2 (sym halved.lower) small.two_pass two_ascend
+lower_is_found_by_both = halved_finds_the_same two (sought 1) (Ok (record { «record» = 0; opened = 2 })) 2 (sym halved.lower) small.two_pass two_ascend
 
 pub halving_gives_21 : Gives (21 ∷ 23 ∷ 24 ∷ 27 ∷ []) (25 ∷ []) (plainly 21)
 halving_gives_21 = halving_gives (7 ∷ []) (name 1) (plainly 21) 0 halved.no_file

@@ -1,5 +1,6 @@
 -- No theorem of the sheet is empty: for each that has hypotheses, a case in which they hold, computed, and what it then says.
 -- Message M of document 01, the CRC message C, a file that make wrote, the empty file, and a file of one byte.
+use Rattle.std.specs.Prelude.{Ok, Err, Some, None, Option, Result}
 use mathlib.Core.Bool.{false, cond, not}
 use mathlib.Core.List.{List, [], ◌∷◌, ◌++◌}
 use mathlib.Core.Logic.{◌⊎◌, inl, inr}
@@ -28,9 +29,6 @@ use Rattle.envelope.specs.RoundTrips.{ReadsAs, HandsOut}
 use Rattle.envelope.specs.Told.{Reads}
 use Rattle.envelope.specs.Writing.{WriteOutcome, written, refused, writing, answer_to_writing, after_writing, wrote, told_writing, Writes, has_zero, bad_end, stray_integrity}
 use Rattle.envelope.specs.declared.reader.Fault.TheVariants.{TooShort}
-use Rattle.envelope.specs.declared.reader.Reading.TheVariants.{Accepted}
-use Rattle.envelope.specs.declared.rewriter.Rewriting.TheVariants as again
-use Rattle.envelope.specs.declared.writer.Writing.TheVariants.{Written, Refused}
 use Rattle.envelope.specs.declared.writer.WriteFault.TheVariants.{NoRoom}
 use Rattle.golden.specs.Beginning.{is_proper_beginning}
 use Rattle.golden.specs.Checking.{counted, checking}
@@ -48,14 +46,8 @@ use Rattle.golden.specs.Stepping.{end, step_at, next_after, told_reached}
 use Rattle.golden.specs.Stepping as step
 use Rattle.golden.specs.Retiring.{marked, done, retiring}
 use Rattle.golden.specs.Theorems.{Passed, FirstRefused, FirstNamed, no_file, MadeGood, InOrder}
-use Rattle.golden.specs.declared.comparer.Comparison.TheVariants as comparison
-use Rattle.golden.specs.declared.maker.Making.TheVariants.{Made}
-use Rattle.golden.specs.declared.maker.Making.TheVariants as making
 use Rattle.golden.specs.Walking.{Walks}
 use Rattle.golden.specs.declared.refusal.Refusal.TheVariants.{NotAGoldenFile, NoRecord, BadLength, WrongBuffer}
-use Rattle.golden.specs.declared.stepper.Reached.{Reached}
-use Rattle.golden.specs.declared.stepper.Reached.TheVariants.{Message, End}
-use Rattle.golden.specs.declared.stepper.Reached.TheVariants as reached
 use Rattle.golden.specs.declared.walker.Walk.{Walk}
 use Rattle.exports.specs.Envelopes.{ReadsForC}
 use Rattle.exports.specs.Word.{slots, word, unword}
@@ -85,20 +77,20 @@ M_written_then_read = written_then_read given_m 21 M writes_M
 
 pub M_written_buffer_then_read : ReadsAs M given_m
 M_written_buffer_then_read =
-    written_buffer_then_read given_m (replicate 21 0) M (Written 21) 21
+    written_buffer_then_read given_m (replicate 21 0) M (Ok 21) 21
     (ap answer_to_writing (sym writes_M), ap (λ (o : WriteOutcome). after_writing o (replicate 21 0)) (sym writes_M)) refl
 
-writes_in_buffer : Writes given_m (replicate 21 0) (Written 21) M
+writes_in_buffer : Writes given_m (replicate 21 0) (Ok 21) M
 writes_in_buffer = (ap answer_to_writing (sym writes_M), ap (λ (o : WriteOutcome). after_writing o (replicate 21 0)) (sym writes_M))
 
-reads_M : Reads M (Accepted envelope_m)
+reads_M : Reads M (Ok envelope_m)
 reads_M = sym starred.a.0
 
-pub M_written_then_handed_out : HandsOut (Accepted envelope_m) M given_m
-M_written_then_handed_out = written_then_handed_out given_m (replicate 21 0) M (Written 21) 21 (Accepted envelope_m) writes_in_buffer refl reads_M
+pub M_written_then_handed_out : HandsOut (Ok envelope_m) M given_m
+M_written_then_handed_out = written_then_handed_out given_m (replicate 21 0) M (Ok 21) 21 (Ok envelope_m) writes_in_buffer refl reads_M
 
-pub M_handed_out_then_written : (told_writing (Written 21) ≡ wrote 21) × (M ≡ M ++ [])
-M_handed_out_then_written = handed_out_then_written M envelope_m (replicate 21 0) M (Written 21) bytes_M reads_M (omega arith) writes_in_buffer
+pub M_handed_out_then_written : (told_writing (Ok 21) ≡ wrote 21) × (M ≡ M ++ [])
+M_handed_out_then_written = handed_out_then_written M envelope_m (replicate 21 0) M (Ok 21) bytes_M reads_M (omega arith) writes_in_buffer
 
 pub M_read_then_written : writing given_m 21 ≡ written M
 M_read_then_written = read_then_written M (like_m absent 17 0) 21 bytes_M starred.a.0 (omega arith)
@@ -120,12 +112,12 @@ M_finds_no_room = refl
 
 pub no_room_writes_nothing : ◌≡◌ {A = List ℕ} [] []
 no_room_writes_nothing =
-    a_refusal_writes_nothing given_m [] [] (Refused NoRoom) 15
+    a_refusal_writes_nothing given_m [] [] (Err NoRoom) 15
     (ap answer_to_writing (sym M_finds_no_room), ap (λ (o : WriteOutcome). after_writing o []) (sym M_finds_no_room)) refl
 
 pub no_record_keeps_the_list : ◌≡◌ {A = List ℕ} (9 ∷ []) (9 ∷ [])
 unfolding comparing compare.answer_to_comparing after_comparing bad_file
-no_record_keeps_the_list = a_refused_comparison_keeps_the_list [] 0 M (9 ∷ []) (9 ∷ []) (comparison.Refused NoRecord) (plainly 22) (refl, refl) refl
+no_record_keeps_the_list = a_refused_comparison_keeps_the_list [] 0 M (9 ∷ []) (9 ∷ []) (Err NoRecord) (plainly 22) (refl, refl) refl
 
 made_in : (room : ℕ) → making M room ≡ cond (not (eqb room 512)) (make.refused (plainly 35)) make.made
 unfolding making
@@ -133,7 +125,7 @@ made_in room = rw starred.a.0
 
 pub wrong_buffer_keeps_it : ◌≡◌ {A = List ℕ} (9 ∷ []) (9 ∷ [])
 wrong_buffer_keeps_it =
-    a_refused_making_keeps_the_buffer M (9 ∷ []) (9 ∷ []) (making.Refused WrongBuffer) (plainly 35)
+    a_refused_making_keeps_the_buffer M (9 ∷ []) (9 ∷ []) (Err WrongBuffer) (plainly 35)
     (sym (made_in 1), ap (λ (a : make.MakeAnswer). make.after_making a M (9 ∷ [])) (sym (made_in 1))) refl
 
 -- ---- golden files: one that make wrote, the empty one, and one byte
@@ -178,10 +170,10 @@ M_and_C_no_beginning = never_a_beginning M C (like_m absent 17 0) fields_of_c st
 -- ---- walks
 
 -- any reference to the empty file: the walk is at its end from the first step on
-pub empty_file_walks : (lent : Bor (List ℕ)) → lent.now ≡ [] → InOrder lent.now (λ k. End)
+pub empty_file_walks : (lent : Bor (List ℕ)) → lent.now ≡ [] → InOrder lent.now (λ k. Ok None)
 unfolding step_at next_after bad_file
 empty_file_walks lent e =
-    file_walks_in_order lent (λ k. record { file = lent; next = 0 }) (λ k. End)
+    file_walks_in_order lent (λ k. record { file = lent; next = 0 }) (λ k. Ok None)
     (record { fresh = (refl, refl); steps = λ k. (rw e, (refl, rw e)) }) (rw e)
 
 -- ---- a walk over a good record, that of M, and a bad one, of zeros
@@ -214,10 +206,10 @@ walk_at lent zero = record { file = lent; next = 0 }
 walk_at lent (suc zero) = record { file = lent; next = 1 }
 walk_at lent (suc (suc k)) = record { file = lent; next = 2 }
 
-abbrev reached_at : ℕ → Reached
-reached_at zero = Message (record { place = 2; size = 21 }) false
-reached_at (suc zero) = reached.Refused BadLength
-reached_at (suc (suc k)) = End
+abbrev reached_at : ℕ → Result (Option Stored) GoldenRefusal
+reached_at zero = Ok (Some (record { part = (record { place = 2; size = 21 }); retired = false }))
+reached_at (suc zero) = Err BadLength
+reached_at (suc (suc k)) = Ok None
 
 walks_on : (lent : Bor (List ℕ)) → lent.now ≡ two_records → (k : ℕ) → Walks (walk_at lent k) (reached_at k) (walk_at lent (suc k))
 walks_on lent e zero = rw e (sym good_step, (refl, sym goes_on.0))
@@ -228,10 +220,10 @@ pub two_records_walk : (lent : Bor (List ℕ)) → lent.now ≡ two_records → 
 two_records_walk lent e =
     file_walks_in_order lent (walk_at lent) reached_at (record { fresh = (refl, refl); steps = walks_on lent e }) (rw e whole_file)
 
-pub one_byte_stays : (lent : Bor (List ℕ)) → lent.now ≡ 7 ∷ [] → (k : ℕ) → told_reached (reached.Refused NotAGoldenFile) ≡ step.refused (plainly 21)
+pub one_byte_stays : (lent : Bor (List ℕ)) → lent.now ≡ 7 ∷ [] → (k : ℕ) → told_reached (Err NotAGoldenFile) ≡ step.refused (plainly 21)
 unfolding step_at next_after bad_file
 one_byte_stays lent e k =
-    other_file_stays lent (λ k. record { file = lent; next = 0 }) (λ k. reached.Refused NotAGoldenFile)
+    other_file_stays lent (λ k. record { file = lent; next = 0 }) (λ k. Err NotAGoldenFile)
     (record { fresh = (refl, refl); steps = λ k. (rw e, (refl, rw e)) }) (rw e) k
 
 -- ---- which refusals: one of each operation
@@ -401,10 +393,10 @@ short_M = rw starred.b (refl, refl)
 pub the_fields_stayed : ◌≡◌ {A = List ℕ} (9 ∷ []) (9 ∷ [])
 the_fields_stayed = refused_read_for_c_keeps (take 20 M) (9 ∷ []) (1 + 20 * 4294967296) (9 ∷ []) short_M (λ e. apart 1 0 tt e)
 
-rewrites_short_M : Rewrites (take 20 M) (9 ∷ []) (again.Refused (record { fault = TooShort; place = 20 })) (9 ∷ [])
+rewrites_short_M : Rewrites (take 20 M) (9 ∷ []) (Err (record { fault = TooShort; place = 20 })) (9 ∷ [])
 rewrites_short_M = rw starred.b (refl, refl)
 
 pub the_buffer_stayed : ◌≡◌ {A = List ℕ} (9 ∷ []) (9 ∷ [])
 the_buffer_stayed =
-    a_refused_rewrite_writes_nothing (take 20 M) (9 ∷ []) (9 ∷ []) (again.Refused (record { fault = TooShort; place = 20 })) rewrites_short_M
+    a_refused_rewrite_writes_nothing (take 20 M) (9 ∷ []) (9 ∷ []) (Err (record { fault = TooShort; place = 20 })) rewrites_short_M
     (λ n e. let z : ◌≡◌ {A = ℕ} 0 1 = cc in omega arith)

@@ -1,5 +1,6 @@
 -- The cases of K5, computed from the definitions. A sum is computed by the crate `sum`, and division finds it by its law.
 -- Beside them the answers for M as the code hands them out, of which the theorems of agreement then speak.
+use Rattle.std.specs.Prelude.{Ok, None}
 use Prim.Native.Nat.{◌+◌}
 use mathlib.Core.List.{[], ◌∷◌}
 use mathlib.Core.Path.{◌≡◌, refl, sym, ◌∙◌}
@@ -13,12 +14,10 @@ use Rattle.envelope.specs.IntegrityField.{bad_integrity}
 use Rattle.envelope.specs.Numbers.{three_at, four_at}
 use Rattle.envelope.specs.Reading.{reading}
 use Rattle.envelope.specs.Told.{told}
-use Rattle.envelope.specs.declared.reader.Reading.TheVariants.{Accepted}
 use Rattle.judge.specs.Agreement.{Agree, refusal_in}
 use Rattle.judge.specs.Rules.{none_broken, least_rule, version_rule, flags_rule, variable_size_rule, length_rule, addresses_rule, integrity_rule}
 use Rattle.judge.specs.Told.{Judges}
 use Rattle.judge.specs.declared.judging.Judging.{Judging}
-use Rattle.judge.specs.declared.judging.Lowest.TheVariants.{NoneBroken}
 use Rattle.judge.specs.declared.judging.Verdict.TheVariants.{Kept, NotJudged}
 use Rattle.exports.specs.Envelopes.{ReadsForC}
 use Rattle.exports.specs.Verdicts.{JudgesForC}
@@ -62,11 +61,11 @@ pub judges_M : Judges M judging_m
 unfolding least_rule version_rule flags_rule variable_size_rule length_rule addresses_rule integrity_rule bad_flags bad_variable_size announced three_at four_at bad_integrity
 judges_M = refl
 
-pub agree_on_M : Agree [] (told (Accepted envelope_m))
-agree_on_M = answers_agree M (Accepted envelope_m) judging_m (sym starred.a.0) judges_M
+pub agree_on_M : Agree [] (told (Ok envelope_m))
+agree_on_M = answers_agree M (Ok envelope_m) judging_m (sym starred.a.0) judges_M
 
-pub lowest_of_M : none_broken ≡ refusal_in (told (Accepted envelope_m))
-lowest_of_M = lowest_is_readings M (Accepted envelope_m) judging_m NoneBroken (sym starred.a.0) judges_M refl
+pub lowest_of_M : none_broken ≡ refusal_in (told (Ok envelope_m))
+lowest_of_M = lowest_is_readings M (Ok envelope_m) judging_m None (sym starred.a.0) judges_M refl
 
 -- of the single byte 03 the reader of the C interface tells 1 at place 1, and so does its judge, in the slots for it
 reads_a_byte : ReadsForC (3 ∷ []) [] (1 + 4294967296) []

@@ -1,10 +1,10 @@
 -- K3: lateness counted from a message's entry into the messaging infrastructure: what decides it, and how it goes on with the clock.
 -- Behind each theorem that has hypotheses, a case in which they hold, computed, and what it then says.
+use Rattle.std.specs.Prelude.{Some, None}
 use Prim.Native.Nat.{ℕ, ◌+◌, ◌≤◌}
 use mathlib.Core.Path.{◌≡◌, refl}
 use native.Mathlib.Omega.{arith}
 use Rattle.envelope.specs.Lateness.{lateness_of, AddressingDecides, LateStaysLate, InTimeUpToEntryAndTtl}
-use Rattle.envelope.specs.declared.fields.Addressing.TheVariants.{Present}
 use Rattle.envelope.specs.declared.fields.Envelope.{Envelope}
 use Rattle.envelope.specs.declared.fields.Integrity.TheVariants.{None}
 use Rattle.envelope.specs.declared.fields.Part.{Part}
@@ -21,7 +21,7 @@ abbrev timed : (flags time : ℕ) → Envelope
 timed flags time =
     record {
       header = record { message_type = 6000; version = 1; flags = flags; number = 1; time = time };
-      addressing = Present 20 0 (end 21) (end 22);
+      addressing = Some (record { ttl = 20; qos = 0; source = (end 21); destination = (end 22) });
       body = record { place = 23; size = 0 };
       integrity = None;
     }

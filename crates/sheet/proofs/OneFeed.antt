@@ -1,5 +1,6 @@
 -- A new feed and one call on it: a message is found, with its envelope. Messages M and C as the code hands them out.
 -- What instances and refutations about feeds start from.
+use Rattle.std.specs.Prelude.{Ok, Some, None}
 use mathlib.Core.List.{List, [], ◌++◌, append-nil}
 use mathlib.Core.Path.{◌≡◌, refl, sym, ◌∙◌, subst}
 use Prim.Native.Nat.{ℕ, ◌≤◌}
@@ -9,7 +10,6 @@ use Rattle.envelope.specs.Fields.{accepted}
 use Rattle.envelope.specs.Promise.{Bytes}
 use Rattle.envelope.specs.Reading.{reading}
 use Rattle.envelope.specs.Told.{told_envelope}
-use Rattle.envelope.specs.declared.fields.Addressing.TheVariants.{Absent}
 use Rattle.envelope.specs.declared.fields.Envelope.{Envelope}
 use Rattle.envelope.specs.declared.fields.Integrity.{Integrity}
 use Rattle.envelope.specs.declared.fields.Integrity.TheVariants.{None, Crc}
@@ -20,12 +20,11 @@ use Rattle.feed.specs.TwoBits.{FoundSomewhere}
 use Rattle.feed.specs.Verdict.{room}
 use Rattle.feed.specs.declared.feeder.Feed.{Feed}
 use Rattle.feed.specs.declared.feeder.Taken.{Taken}
-use Rattle.feed.specs.declared.step.Found.TheVariants.{Message}
 use Rattle.feed.specs.declared.step.Standing.TheVariants.{Inside, Whole}
 use Rattle.feed.proofs.SettlingLaws.{new_is_between, found_in_one_piece, found_at_its_last_byte}
 
 abbrev pub new_feed : Feed
-new_feed = record { kept = replicate room 0; count = 0; standing = Inside }
+new_feed = record { kept = replicate room 0; beside = record { count = 0; standing = Inside } }
 
 pub is_new : Fresh new_feed
 is_new = refl
@@ -38,7 +37,7 @@ abbrev pub envelope_of : (flags size : ℕ) → Integrity → Envelope
 envelope_of flags size integrity =
     record {
       header = record { message_type = 6000; version = 1; flags = flags; number = 1; time = 0 };
-      addressing = Absent;
+      addressing = None;
       body = record { place = 17; size = size };
       integrity = integrity;
     }
@@ -54,7 +53,7 @@ envelope_c = envelope_of 8 2 (Crc 0xD9299F95)
 module _ (m : List ℕ) (e : Envelope) (short : length m ≤ room) (accepts : reading m ≡ accepted (told_envelope e)) where
   abbrev pub taken_whole : Taken
   taken_whole =
-      record { feed = record { kept = sets new_feed.kept 0 m; count = length m; standing = Whole }; used = length m; found = Message (length m) e }
+      record { feed = record { kept = sets new_feed.kept 0 m; beside = record { count = length m; standing = Whole } }; used = length m; found = Ok (Some (record { size = (length m); envelope = e })) }
 
   -- and whatever behind it
   pub takes_whole : (rest : List ℕ) → Takes new_feed (m ++ rest) taken_whole

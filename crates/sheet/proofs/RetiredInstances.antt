@@ -1,5 +1,6 @@
 -- No theorem of K7 is empty: for each that has hypotheses a case in which they hold, computed, and what it then says.
 -- The files are those of specs/SmallFiles; `two` is without marks, and `withdrawn` is what retiring its first record writes.
+use Rattle.std.specs.Prelude.{Ok, Err}
 use mathlib.Core.Bool.{false}
 use mathlib.Core.List.{List, [], ◌∷◌}
 use mathlib.Core.Path.{◌≡◌, refl, sym, ap, ◌∙◌}
@@ -24,7 +25,6 @@ use Rattle.golden.specs.Retired.{RetiredOne}
 use Rattle.golden.specs.Retiring.{RetireAnswer, done, refused, retiring, after_retiring}
 use Rattle.golden.specs.WithoutMark.{MeansTheSame}
 use Rattle.golden.specs.declared.refusal.Refusal.TheVariants.{AlreadyRetired}
-use Rattle.golden.specs.declared.retirer.Retiring.TheVariants as retired
 use Rattle.sheet.specs.SmallFiles.{name, two, withdrawn, broken}
 use Rattle.sheet.proofs.Demand1.{count_retired_gives, retire_gives, a_refused_retiring_keeps_the_buffer}
 use Rattle.sheet.proofs.Retiring.{unmarked_means_the_same, none_retired, retire_marks_one, retired_still_passes, retire_counts_one, others_are_found, name_is_withdrawn, retired_twice, passed_still_passes, retired_is_written, retire_passes_on}
@@ -86,12 +86,12 @@ retires_in = retirings.retires
 
 pub withdrawn_is_written : RetiredOne two 0 withdrawn
 withdrawn_is_written =
-    retired_is_written two 0 room withdrawn retired.Done
+    retired_is_written two 0 room withdrawn (Ok tt)
     (sym retires_in, ap (λ (a : RetireAnswer). after_retiring a two 0 room) (sym retires_in)) refl
 
 pub a_refused_one_keeps_its_buffer : ◌≡◌ {A = List ℕ} (0 ∷ []) (0 ∷ [])
 a_refused_one_keeps_its_buffer =
-    a_refused_retiring_keeps_the_buffer withdrawn 0 (0 ∷ []) (0 ∷ []) (retired.Refused AlreadyRetired) (plainly 36)
+    a_refused_retiring_keeps_the_buffer withdrawn 0 (0 ∷ []) (0 ∷ []) (Err AlreadyRetired) (plainly 36)
     (sym retirings.already, ap (λ (a : RetireAnswer). after_retiring a withdrawn 0 (0 ∷ [])) (sym retirings.already)) refl
 
 pub retire_passed_7_on : reading (message_of (record_at broken 0)) ≡ envelope.refused (refusal_by 7 17)

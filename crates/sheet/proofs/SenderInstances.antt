@@ -1,5 +1,6 @@
 -- No theorem about the sender is empty: for each a history or a run in which its hypotheses hold, computed, and what the theorem then says of it.
 -- The history is that of the cases: 7 fails, 8 is acknowledged, 7 is used again and is in flight, 9 waits.
+use Rattle.std.specs.Prelude.{Err, Some, None}
 use Prim.Native.Nat.{ℕ, zero, suc, ◌+◌, ◌≤◌, ◌<◌}
 use mathlib.Core.Bool.{true, false}
 use mathlib.Core.List.{List, [], ◌∷◌, ◌++◌}
@@ -18,10 +19,6 @@ use Rattle.sender.specs.Sends.{sends, AllSent}
 use Rattle.sender.specs.Told.{queue_of, stored, state_of, Starts, Answers}
 use Rattle.sender.specs.declared.bench.Answer.TheVariants.{Sent, Waits, Settled, Failed, Refused}
 use Rattle.sender.specs.declared.bench.Bench.{Bench}
-use Rattle.sender.specs.declared.bench.Flight.TheVariants.{Idle, Busy}
-use Rattle.sender.specs.declared.bench.Next.TheVariants.{Nothing, Goes}
-use Rattle.sender.specs.declared.bench.Start.TheVariants.{Refused as StartRefused}
-use Rattle.sender.specs.declared.bench.Step.{Step}
 use Rattle.sender.specs.declared.refusal.Refusal.TheVariants.{Known, TooManyResends}
 use Rattle.sheet.specs.SenderCases.{asked, told, nearly_full, full}
 use Rattle.sheet.proofs.Apart.{apart}
@@ -101,11 +98,11 @@ known_is_71 = then_known 3 nearly_full (lit< tt) refl
 pub other_is_72 : (answering (time_out 3) full).reply ≡ refused (plainly 72)
 other_is_72 = (not_in_flight 3 full refl).2
 
-pub eleven_is_73 : StartRefused TooManyResends ≡ StartRefused TooManyResends
-eleven_is_73 = start_refuses 11 (StartRefused TooManyResends) refl (lit< tt)
+pub eleven_is_73 : Err TooManyResends ≡ Err TooManyResends
+eleven_is_73 = start_refuses 11 (Err TooManyResends) refl (lit< tt)
 
 -- 10 is the most, and no refusal answers it
-pub ten_meets_no_known : Starts 10 (StartRefused Known) → ⊥
+pub ten_meets_no_known : Starts 10 (Err Known) → ⊥
 ten_meets_no_known = start_takes 10 Known (lit≤ tt)
 
 -- ---- a run of the code with no resends: 7 goes out, and once more is refused; 8 waits; 7 times out and has failed, so 8 goes out; 8 is
@@ -115,16 +112,16 @@ abbrev anything : List ℕ
 anything = replicate 16 5
 
 abbrev start : Bench
-start = record { resends = 0; flight = Idle; count = 0 }
+start = record { resends = 0; flight = None; count = 0 }
 
 abbrev flies : Bench
-flies = record { resends = 0; flight = Busy 7 0; count = 0 }
+flies = record { resends = 0; flight = Some (record { commid = 7; left = 0 }); count = 0 }
 
 abbrev beside_eight : Bench
-beside_eight = record { resends = 0; flight = Busy 7 0; count = 1 }
+beside_eight = record { resends = 0; flight = Some (record { commid = 7; left = 0 }); count = 1 }
 
 abbrev eight_flies : Bench
-eight_flies = record { resends = 0; flight = Busy 8 0; count = 0 }
+eight_flies = record { resends = 0; flight = Some (record { commid = 8; left = 0 }); count = 0 }
 
 abbrev went : Step
 went = record { answer = Sent; bench = flies }
@@ -243,8 +240,8 @@ unfolding word
 c_keeps_the_numbers = refused_start_for_c_keeps 300 (9 ∷ 9 ∷ 9 ∷ 9 ∷ []) (word (slots 73 0 0 0)) (9 ∷ 9 ∷ 9 ∷ 9 ∷ []) c_refuses_300 (apart 73 0 tt)
 
 -- with the largest numbers that have room
-pub c_stores_the_largest : StoresBench (255 ∷ 16 ∷ 4294967295 ∷ 256 ∷ []) (record { resends = 255; flight = Busy 4294967295 255; count = 16 })
-c_stores_the_largest = storage_keeps_the_bench (record { resends = 255; flight = Busy 4294967295 255; count = 16 }) (lit< tt, (lit< tt, lit< tt))
+pub c_stores_the_largest : StoresBench (255 ∷ 16 ∷ 4294967295 ∷ 256 ∷ []) (record { resends = 255; flight = Some (record { commid = 4294967295; left = 255 }); count = 16 })
+c_stores_the_largest = storage_keeps_the_bench (record { resends = 255; flight = Some (record { commid = 4294967295; left = 255 }); count = 16 }) (lit< tt, (lit< tt, lit< tt))
 
 -- ---- the same run from C
 

@@ -1,5 +1,6 @@
 -- For each public promise two answers that a careless program would give, each refuted by computing.
 -- They show that no promise is met by whatever comes.
+use Rattle.std.specs.Prelude.{Ok, Err, Some, Result}
 use mathlib.Core.Bool.{true, false}
 use mathlib.Core.List.{List, [], ◌∷◌, ◌++◌}
 use mathlib.Core.Path.{◌≡◌, refl, sym, ap, ◌∙◌}
@@ -27,20 +28,14 @@ use Rattle.envelope.specs.RoundTrips.{given_by}
 use Rattle.envelope.specs.Sequence.{steps_on, Distance, JudgesSequence}
 use Rattle.envelope.specs.Told.{NumbersFault, Slices, Reads, Holds}
 use Rattle.envelope.specs.Writing.{WriteOutcome, written, writing, after_writing, has_zero, bad_end, stray_integrity, NumbersWriteFault, Writes}
-use Rattle.envelope.specs.declared.fields.Addressing.TheVariants.{Absent, Present}
 use Rattle.envelope.specs.declared.fields.Envelope.{Envelope}
 use Rattle.envelope.specs.declared.fields.Header.{Header}
 use Rattle.envelope.specs.declared.fields.Integrity.TheVariants.{None}
 use Rattle.envelope.specs.declared.lateness.Lateness.TheVariants.{NoClock, Late, InTime}
-use Rattle.envelope.specs.declared.qos.Joining.TheVariants.{Joined, DoesNotFit}
 use Rattle.envelope.specs.declared.reader.Fault.TheVariants.{TooShort, WrongVersion, BadFlags}
-use Rattle.envelope.specs.declared.reader.Reading.TheVariants.{Accepted, Refused}
 use Rattle.envelope.specs.declared.reader.Refusal.{Refusal as ReadingRefusal}
-use Rattle.envelope.specs.declared.rewriter.Rewriting.TheVariants as again
 use Rattle.envelope.specs.declared.sequence.Sequence.TheVariants.{Ahead, Behind}
 use Rattle.envelope.specs.declared.writer.WriteFault.TheVariants.{StrayIntegrity, NoRoom}
-use Rattle.envelope.specs.declared.writer.Writing.{Writing}
-use Rattle.envelope.specs.declared.writer.Writing.TheVariants as writer
 use Rattle.envelope.proofs.BoolLaws.{true_is_not_false}
 use Rattle.sheet.specs.Cases.{M, like_m}
 use Rattle.sheet.proofs.Apart.{apart, accepted_not_refused, refusal_number}
@@ -66,13 +61,13 @@ crc_starts_with_all_ones kept = apart 0xD202D277 0xCBF43926 tt (kept ∙ vectors
 
 -- ---- read: all turned away; the field skipped where the kind is none; another rule's number
 
-pub read_does_not_turn_all_away : (r : ReadingRefusal) → Reads M (Refused r) → ⊥
+pub read_does_not_turn_all_away : (r : ReadingRefusal) → Reads M (Err r) → ⊥
 read_does_not_turn_all_away r kept = accepted_not_refused _ _ (sym (kept ∙ starred.a.0))
 
-pub read_does_not_skip_the_field : (e : Envelope) → Reads (set M 20 1) (Accepted e) → ⊥
+pub read_does_not_skip_the_field : (e : Envelope) → Reads (set M 20 1) (Ok e) → ⊥
 read_does_not_skip_the_field e kept = accepted_not_refused _ _ (kept ∙ starred.f)
 
-pub read_gives_the_first_rule : (place : ℕ) → Reads (take 20 M) (Refused (record { fault = WrongVersion; place = place })) → ⊥
+pub read_gives_the_first_rule : (place : ℕ) → Reads (take 20 M) (Err (record { fault = WrongVersion; place = place })) → ⊥
 read_gives_the_first_rule place kept = apart 2 1 tt (refusal_number 2 place 1 20 (kept ∙ starred.b))
 
 -- the sum over the message with its field as zeros, in the field
@@ -88,7 +83,7 @@ reads_as_zeros : reading field_as_zeros ≡ refused_by 7 21
 unfolding reading reading_whole heading announced bad_flags bad_variable_size bad_addresses bad_integrity two_at three_at four_at
 reads_as_zeros = rw (crc32_computes (take 21 field_as_zeros) tt)
 
-pub read_does_not_count_the_field_as_zeros : (e : Envelope) → Reads field_as_zeros (Accepted e) → ⊥
+pub read_does_not_count_the_field_as_zeros : (e : Envelope) → Reads field_as_zeros (Ok e) → ⊥
 read_does_not_count_the_field_as_zeros e kept = accepted_not_refused _ _ (kept ∙ reads_as_zeros)
 
 -- ---- write: nothing touched; a byte past the message touched; another header version; a refusal that writes
@@ -100,30 +95,30 @@ pub writes_M : writing given_m 21 ≡ written M
 unfolding writing message before_field field_number bad_flags bad_end has_zero stray_integrity
 writes_M = refl
 
-pub write_does_not_touch_nothing : (r : Writing) → Writes given_m (replicate 21 0) r (replicate 21 0) → ⊥
+pub write_does_not_touch_nothing : (r : Result ℕ WriteFault) → Writes given_m (replicate 21 0) r (replicate 21 0) → ⊥
 write_does_not_touch_nothing r kept =
     apart 0 4 tt (ap (λ (s : List ℕ). get_or s 0 0) (kept.1 ∙ ap (λ (o : WriteOutcome). after_writing o (replicate 21 0)) writes_M))
 
-pub write_leaves_the_rest : (r : Writing) → Writes given_m (replicate 22 0) r (M ++ 9 ∷ []) → ⊥
+pub write_leaves_the_rest : (r : Result ℕ WriteFault) → Writes given_m (replicate 22 0) r (M ++ 9 ∷ []) → ⊥
 unfolding writing message before_field field_number bad_flags bad_end has_zero stray_integrity
 write_leaves_the_rest r kept = apart 9 0 tt (ap (λ (s : List ℕ). get_or s 21 0) kept.1)
 
-pub write_puts_header_version_4 : (r : Writing) → Writes given_m (replicate 21 0) r (set M 0 3) → ⊥
+pub write_puts_header_version_4 : (r : Result ℕ WriteFault) → Writes given_m (replicate 21 0) r (set M 0 3) → ⊥
 write_puts_header_version_4 r kept =
     apart 3 4 tt (ap (λ (s : List ℕ). get_or s 0 0) (kept.1 ∙ ap (λ (o : WriteOutcome). after_writing o (replicate 21 0)) writes_M))
 
 -- no room, and the message's first bytes all the same
-pub write_writes_nothing_on_a_refusal : Writes given_m (replicate 20 0) (writer.Refused NoRoom) (take 20 M) → ⊥
+pub write_writes_nothing_on_a_refusal : Writes given_m (replicate 20 0) (Err NoRoom) (take 20 M) → ⊥
 unfolding writing message before_field field_number bad_flags bad_end has_zero stray_integrity
 write_writes_nothing_on_a_refusal kept = apart 4 0 tt (ap (λ (s : List ℕ). get_or s 0 0) kept.1)
 
 -- ---- rewrite: nothing touched; a message of which one byte is missing
 
-pub rewrite_does_not_touch_nothing : Rewrites M (replicate 21 0) (again.Written 21) (replicate 21 0) → ⊥
+pub rewrite_does_not_touch_nothing : Rewrites M (replicate 21 0) (Ok 21) (replicate 21 0) → ⊥
 rewrite_does_not_touch_nothing kept =
     apart 0 4 tt (ap (λ (s : List ℕ). get_or s 0 0) (rw starred.a.0 at kept.1))
 
-pub rewrite_refuses_what_read_refuses : (exit : List ℕ) → Rewrites (take 20 M) (replicate 21 0) (again.Written 20) exit → ⊥
+pub rewrite_refuses_what_read_refuses : (exit : List ℕ) → Rewrites (take 20 M) (replicate 21 0) (Ok 20) exit → ⊥
 rewrite_refuses_what_read_refuses exit kept = told (rw starred.b at kept.0)
   where
     told : rewrote 20 ≡ refused (refusal_by 1 20) → ⊥
@@ -135,12 +130,12 @@ abbrev header_m : Header
 header_m = record { message_type = 6000; version = 1; flags = 0; number = 1; time = 0 }
 
 pub new_keeps_the_body :
-    Holds header_m Absent (record { place = 17; size = 0 }) None (record { header = header_m; addressing = Absent; body = record { place = 0; size = 0 }; integrity = None }) → ⊥
+    Holds header_m prelude.None (record { place = 17; size = 0 }) None (record { header = header_m; addressing = prelude.None; body = record { place = 0; size = 0 }; integrity = None }) → ⊥
 new_keeps_the_body kept = apart 0 17 tt (ap (λ (e : Envelope). e.body.place) kept)
 
 pub new_keeps_the_header :
-    Holds header_m Absent (record { place = 17; size = 0 }) None
-    (record { header = record { message_type = 0; version = 1; flags = 0; number = 1; time = 0 }; addressing = Absent; body = record { place = 17; size = 0 }; integrity = None })
+    Holds header_m prelude.None (record { place = 17; size = 0 }) None
+    (record { header = record { message_type = 0; version = 1; flags = 0; number = 1; time = 0 }; addressing = prelude.None; body = record { place = 17; size = 0 }; integrity = None })
     → ⊥
 new_keeps_the_header kept = apart 0 6000 tt (ap (λ (e : Envelope). e.header.message_type) kept)
 
@@ -265,12 +260,12 @@ unfolding splitting
 split_is_not_always_0 kept = apart 0 4 tt (ap (λ (f : QosFields). f.service_request) kept)
 
 pub join_does_not_run_round :
-    Joins (record { service_request = 8; special_handling = 0; network_preference = 0; priority = 0; class = 0 }) (Joined 0) → ⊥
+    Joins (record { service_request = 8; special_handling = 0; network_preference = 0; priority = 0; class = 0 }) (Some 0) → ⊥
 unfolding joining
 join_does_not_run_round kept = let z : ◌≡◌ {A = ℕ} 0 1 = cc in omega arith
 
 pub join_does_not_refuse_all :
-    Joins (record { service_request = 0; special_handling = 0; network_preference = 0; priority = 1; class = 0 }) DoesNotFit → ⊥
+    Joins (record { service_request = 0; special_handling = 0; network_preference = 0; priority = 1; class = 0 }) prelude.None → ⊥
 unfolding joining
 join_does_not_refuse_all kept = let z : ◌≡◌ {A = ℕ} 0 1 = cc in omega arith
 
@@ -280,7 +275,7 @@ abbrev timed : (flags time ttl : ℕ) → Envelope
 timed flags time ttl =
     record {
       header = record { message_type = 6000; version = 1; flags = flags; number = 1; time = time };
-      addressing = Present ttl 0 (record { place = 21; size = 0 }) (record { place = 22; size = 0 });
+      addressing = Some (record { ttl = ttl; qos = 0; source = (record { place = 21; size = 0 }); destination = (record { place = 22; size = 0 }) });
       body = record { place = 23; size = 0 };
       integrity = None;
     }
@@ -298,7 +293,7 @@ unfolding lateness_of
 no_clock_for_a_blank_ttl kept = let z : ◌≡◌ {A = ℕ} 0 1 = cc in omega arith
 
 pub no_clock_without_a_variable_header :
-    JudgesLateness (record { header = header_m; addressing = Absent; body = record { place = 17; size = 0 }; integrity = None }) 100 101 InTime → ⊥
+    JudgesLateness (record { header = header_m; addressing = prelude.None; body = record { place = 17; size = 0 }; integrity = None }) 100 101 InTime → ⊥
 unfolding lateness_of
 no_clock_without_a_variable_header kept = let z : ◌≡◌ {A = ℕ} 0 1 = cc in omega arith
 

@@ -1,5 +1,6 @@
 -- For each public function of the feed answers that a careless program would give, and five feeds that are wrong, each refuted by computing.
 -- Whatever else such an answer says: what is refuted is one number or one case of it.
+use Rattle.std.specs.Prelude.{Ok, Err, Some, None}
 use mathlib.Core.List.{List, [], ◌∷◌, ◌++◌}
 use mathlib.Core.Path.{◌≡◌, ap, sym, ◌∙◌}
 use Prim.Native.Nat.{ℕ}
@@ -9,7 +10,6 @@ use Rattle.envelope.specs.Announcing.{AnnouncementAnswer, unfinished, refused as
 use Rattle.envelope.specs.Flags.{bad_flags}
 use Rattle.envelope.specs.Heading.{announced, bad_variable_size, heading}
 use Rattle.envelope.specs.Numbers.{three_at}
-use Rattle.envelope.specs.declared.announcer.Announcement.TheVariants as code
 use Rattle.envelope.specs.declared.fields.Envelope.{Envelope}
 use Rattle.envelope.specs.declared.reader.Fault.TheVariants.{BadVariableSize}
 use Rattle.feed.specs.Cutting.{Came, Calls}
@@ -22,7 +22,6 @@ use Rattle.feed.specs.declared.refusal.Refusal.TheVariants.{MessageRefused, TooL
 use Rattle.feed.specs.declared.feeder.Ended.{Ended}
 use Rattle.feed.specs.declared.feeder.Feed.{Feed}
 use Rattle.feed.specs.declared.feeder.Taken.{Taken}
-use Rattle.feed.specs.declared.step.Found.TheVariants.{Nothing, Message, Refused as FoundRefused}
 use Rattle.feed.specs.declared.step.Standing.{Standing}
 use Rattle.feed.specs.declared.step.Standing.TheVariants.{Inside, Whole, Refused}
 use Rattle.feed.specs.declared.step.Step.{Step}
@@ -70,28 +69,28 @@ pub a_feed_stops_at_the_wrong_sum : (t : Taken) → t.used ≡ 24 → Takes new_
 a_feed_stops_at_the_wrong_sum t one kept = apart 24 23 tt (sym one ∙ used_in t _ (kept ∙ feed_cases.no_7_crc))
 
 -- one that tells 51 before 4
-pub a_feed_tells_4_before_51 : (t : Taken) → t.found ≡ FoundRefused TooLong → Takes new_feed (set announcing511 16 5) t → ⊥
+pub a_feed_tells_4_before_51 : (t : Taken) → t.found ≡ Err TooLong → Takes new_feed (set announcing511 16 5) t → ⊥
 unfolding value_of
 a_feed_tells_4_before_51 t wrong kept =
     apart 51 4 tt (ap value_of (ap told_found (sym wrong) ∙ found_in t _ (kept ∙ feed_cases.no_4_first)))
 
 -- one that resumes after a refusal: a whole message is lent, and it takes it
 abbrev refused_feed : Feed
-refused_feed = record { kept = (held_by (take 17 announcing511) whole).kept; count = 17; standing = Refused TooLong }
+refused_feed = record { kept = (held_by (take 17 announcing511) whole).kept; beside = record { count = 17; standing = Refused TooLong } }
 
-pub a_feed_does_not_resume : (t : Taken) (n : ℕ) (e : Envelope) → t.found ≡ Message n e → Takes refused_feed M t → ⊥
+pub a_feed_does_not_resume : (t : Taken) (n : ℕ) (e : Envelope) → t.found ≡ Ok (Some (record { size = n; envelope = e })) → Takes refused_feed M t → ⊥
 unfolding kind_of
 a_feed_does_not_resume t n e wrong kept = apart 1 2 tt (ap kind_of (ap told_found (sym wrong) ∙ found_in t _ (kept ∙ feed_cases.not_resumed)))
 
 abbrev feed_between : Feed
-feed_between = record { kept = (held_by C whole).kept; count = 23; standing = Whole }
+feed_between = record { kept = (held_by C whole).kept; beside = record { count = 23; standing = Whole } }
 
 -- and with an empty piece: it finds the message again, or says nothing of the refusal
-pub an_empty_piece_finds_nothing_again : (t : Taken) (n : ℕ) (e : Envelope) → t.found ≡ Message n e → Takes feed_between [] t → ⊥
+pub an_empty_piece_finds_nothing_again : (t : Taken) (n : ℕ) (e : Envelope) → t.found ≡ Ok (Some (record { size = n; envelope = e })) → Takes feed_between [] t → ⊥
 unfolding kind_of
 an_empty_piece_finds_nothing_again t n e wrong kept = apart 1 0 tt (ap kind_of (ap told_found (sym wrong) ∙ found_in t _ (kept ∙ feed_cases.no_bytes_after)))
 
-pub an_empty_piece_repeats_the_refusal : (t : Taken) → t.found ≡ Nothing → Takes refused_feed [] t → ⊥
+pub an_empty_piece_repeats_the_refusal : (t : Taken) → t.found ≡ Ok None → Takes refused_feed [] t → ⊥
 unfolding kind_of
 an_empty_piece_repeats_the_refusal t wrong kept = apart 0 2 tt (ap kind_of (ap told_found (sym wrong) ∙ found_in t _ (kept ∙ feed_cases.no_bytes_refused)))
 
@@ -102,11 +101,11 @@ a_feed_drops_no_byte_at_a_cut c wrong calls =
 
 -- ---- take: the message one byte early; a byte fewer in than came; another message's fields
 
-pub take_does_not_find_early : (t : Taken) (n : ℕ) (e : Envelope) → t.found ≡ Message n e → Takes new_feed (take 22 C) t → ⊥
+pub take_does_not_find_early : (t : Taken) (n : ℕ) (e : Envelope) → t.found ≡ Ok (Some (record { size = n; envelope = e })) → Takes new_feed (take 22 C) t → ⊥
 unfolding kind_of
 take_does_not_find_early t n e wrong kept = apart 1 0 tt (ap kind_of (ap told_found (sym wrong) ∙ found_in t _ (kept ∙ feed_cases.missing_crc)))
 
-pub take_counts_what_is_in : (t : Taken) → t.feed.count ≡ 19 → Takes new_feed (take 20 M) t → ⊥
+pub take_counts_what_is_in : (t : Taken) → t.feed.beside.count ≡ 19 → Takes new_feed (take 20 M) t → ⊥
 take_counts_what_is_in t wrong kept = apart 19 20 tt (sym wrong ∙ ap (λ (o : FeedOutcome). o.state.count) (kept ∙ feed_cases.missing))
 
 flags_in : Finding → ℕ
@@ -114,16 +113,16 @@ flags_in nothing = 0
 flags_in (message n f) = f.header.flags
 flags_in (refused f) = 0
 
-pub take_hands_out_its_envelope : (t : Taken) → t.found ≡ Message 23 envelope_m → Takes new_feed (C ++ M) t → ⊥
+pub take_hands_out_its_envelope : (t : Taken) → t.found ≡ Ok (Some (record { size = 23; envelope = envelope_m })) → Takes new_feed (C ++ M) t → ⊥
 unfolding flags_in
 take_hands_out_its_envelope t wrong kept = apart 0 8 tt (ap flags_in (ap told_found (sym wrong) ∙ found_in t _ (kept ∙ feed_cases.found_crc)))
 
 -- ---- new and restart: a feed with a byte in; a feed that keeps its refusal
 
-pub new_has_no_byte_in : (f : Feed) → f.count ≡ 1 → Fresh f → ⊥
+pub new_has_no_byte_in : (f : Feed) → f.beside.count ≡ 1 → Fresh f → ⊥
 new_has_no_byte_in f wrong kept = apart 1 0 tt (sym wrong ∙ ap (λ (s : State). s.count) kept)
 
-pub restart_keeps_no_refusal : (f : Feed) → f.standing ≡ Refused TooLong → Fresh f → ⊥
+pub restart_keeps_no_refusal : (f : Feed) → f.beside.standing ≡ Refused TooLong → Fresh f → ⊥
 unfolding stand_of
 restart_keeps_no_refusal f wrong kept =
     apart 51 0 tt (ap (λ (s : Standing). stand_of (told_standing s)) (sym wrong) ∙ ap (λ (s : State). stand_of s.stand) kept)
@@ -131,41 +130,41 @@ restart_keeps_no_refusal f wrong kept =
 -- ---- end: nothing inside a message; 52 between messages; 52 told and not kept
 
 abbrev feed_within : Feed
-feed_within = record { kept = (held_by (take 5 C) inside).kept; count = 5; standing = Inside }
+feed_within = record { kept = (held_by (take 5 C) inside).kept; beside = record { count = 5; standing = Inside } }
 
-pub end_inside_is_refused : (e : Ended) → e.found ≡ Nothing → Ends feed_within e → ⊥
+pub end_inside_is_refused : (e : Ended) → e.found ≡ Ok None → Ends feed_within e → ⊥
 unfolding kind_of
 end_inside_is_refused e wrong kept =
     apart 0 2 tt (ap kind_of (ap told_found (sym wrong) ∙ ap (λ (o : FeedOutcome). o.finding) (kept ∙ feed_cases.end_within)))
 
-pub end_between_is_no_refusal : (e : Ended) → e.found ≡ FoundRefused Cut → Ends feed_between e → ⊥
+pub end_between_is_no_refusal : (e : Ended) → e.found ≡ Err Cut → Ends feed_between e → ⊥
 unfolding kind_of
 end_between_is_no_refusal e wrong kept =
     apart 2 0 tt (ap kind_of (ap told_found (sym wrong) ∙ ap (λ (o : FeedOutcome). o.finding) (kept ∙ feed_cases.end_after)))
 
-pub end_keeps_its_refusal : Ends feed_within (record { feed = feed_within; found = FoundRefused Cut }) → ⊥
+pub end_keeps_its_refusal : Ends feed_within (record { feed = feed_within; found = Err Cut }) → ⊥
 unfolding stand_of
 end_keeps_its_refusal kept = apart 0 52 tt (ap (λ (o : FeedOutcome). stand_of o.state.stand) (kept ∙ feed_cases.end_within))
 
 -- ---- advance: the bytes lent not touched; the rest of the room wiped
 
-pub advance_does_not_touch_nothing : (r : Step) → Advances new_feed.kept 0 Inside (take 20 M) r new_feed.kept → ⊥
+pub advance_does_not_touch_nothing : (r : Step) → Advances new_feed.kept (record { count = 0; standing = Inside }) (take 20 M) r new_feed.kept → ⊥
 advance_does_not_touch_nothing r kept =
     apart 0 4 tt (ap (λ (o : FeedOutcome). get_or o.state.kept 0 0) (kept ∙ feed_cases.missing))
 
-pub advance_keeps_the_rest_of_the_room : (r : Step) (exit : List ℕ) → get_or exit 22 0 ≡ 0 → Advances (held_by C whole).kept 23 Whole (9 ∷ []) r exit → ⊥
+pub advance_keeps_the_rest_of_the_room : (r : Step) (exit : List ℕ) → get_or exit 22 0 ≡ 0 → Advances (held_by C whole).kept (record { count = 23; standing = Whole }) (9 ∷ []) r exit → ⊥
 advance_keeps_the_rest_of_the_room r exit wrong kept =
     apart 0 0x95 tt (sym wrong ∙ ap (λ (o : FeedOutcome). get_or o.state.kept 22 0) (kept ∙ feed_cases.next_message))
 
 -- ---- close: the end forgets what stands; the count is lost
 
-pub close_repeats_a_refusal : (r : Step) → r.found ≡ FoundRefused Cut → Closes 17 (Refused TooLong) r → ⊥
+pub close_repeats_a_refusal : (r : Step) → r.found ≡ Err Cut → Closes (record { count = 17; standing = Refused TooLong }) r → ⊥
 unfolding value_of
 close_repeats_a_refusal r wrong kept =
     apart 52 51 tt
     (ap value_of (ap told_found (sym wrong) ∙ ap (λ (o : FeedOutcome). o.finding) (kept (held_by (take 17 announcing511) whole).kept ∙ feed_cases.end_refused)))
 
-pub close_keeps_the_count : (r : Step) → r.count ≡ 0 → Closes 23 Whole r → ⊥
+pub close_keeps_the_count : (r : Step) → r.beside.count ≡ 0 → Closes (record { count = 23; standing = Whole }) r → ⊥
 close_keeps_the_count r wrong kept =
     apart 0 23 tt (sym wrong ∙ ap (λ (o : FeedOutcome). o.state.count) (kept (held_by C whole).kept ∙ feed_cases.end_after))
 
@@ -198,14 +197,14 @@ announced_in unfinished = 0
 announced_in (refusedHeading r) = 1
 announced_in (announces n) = n
 
-pub announce_waits_for_the_header : Announces (take 16 M) (code.Length 21) → ⊥
+pub announce_waits_for_the_header : Announces (take 16 M) (Ok (Some 21)) → ⊥
 unfolding announcing announced_in
 announce_waits_for_the_header kept = apart 21 0 tt (ap announced_in kept)
 
-pub announce_does_not_pass_over_2 : Announces (set M 0 3) (code.Length 21) → ⊥
+pub announce_does_not_pass_over_2 : Announces (set M 0 3) (Ok (Some 21)) → ⊥
 unfolding announcing heading announced_in
 announce_does_not_pass_over_2 kept = apart 21 1 tt (ap announced_in kept)
 
-pub announce_tells_the_whole_length : Announces C (code.Length 19) → ⊥
+pub announce_tells_the_whole_length : Announces C (Ok (Some 19)) → ⊥
 unfolding announcing heading announced bad_flags bad_variable_size three_at announced_in
 announce_tells_the_whole_length kept = apart 19 23 tt (ap announced_in kept)

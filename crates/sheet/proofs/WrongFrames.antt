@@ -1,5 +1,6 @@
 -- For each promise of frames answers that a careless program would give, refuted by the cases of FrameCases.
 -- A length read with its lowest byte first, ETX not looked at, the acknowledged COMMID from the header, and a buffer touched before a refusal among them.
+use Rattle.std.specs.Prelude.{Ok, Err, Result}
 use mathlib.Core.List.{List, [], ◌∷◌, ◌++◌}
 use mathlib.Core.Path.{◌≡◌, ap, sym, ◌∙◌}
 use Prim.Native.Nat.{ℕ}
@@ -16,8 +17,6 @@ use Rattle.frame.specs.Capturing.{MeasuresFirst}
 use Rattle.frame.specs.Refusal.{NumbersFrameRefusal}
 use Rattle.frame.specs.declared.unwrapper.Acknowledgment.{Acknowledgment}
 use Rattle.frame.specs.declared.unwrapper.DataMessage.{DataMessage}
-use Rattle.frame.specs.declared.wrapper.Wrapped as code
-use Rattle.frame.specs.declared.wrapper.Wrapped.TheVariants.{Written}
 use Rattle.frame.specs.declared.refusal.Refusal.TheVariants.{TooShort, MessageRefused}
 use Rattle.frame.specs.declared.unwrapper.Unwrapped.TheVariants.{Data, Acknowledged, Refused}
 use Rattle.sheet.proofs.Apart.{apart}
@@ -75,35 +74,35 @@ pub message_begins_behind_the_header : (e : Envelope) → Unwraps carrier (Data 
 message_begins_behind_the_header e p = apart 0 12 tt (ap place_told (p ∙ unwrap_cases.data_frame_lem))
 
 -- a frame with an empty body called too short
-pub thirteen_bytes_are_no_refusal_61 : Unwraps hollow (Refused TooShort) → ⊥
+pub thirteen_bytes_are_no_refusal_61 : Unwraps hollow (Err TooShort) → ⊥
 thirteen_bytes_are_no_refusal_61 p = apart 61 67 tt (ap kind_told (p ∙ unwrap_cases.thirteen))
 
 -- the message's length for the frame's
-pub wrap_tells_the_frames_length : (exit : List ℕ) → Wraps held 0x01020304 (replicate 37 0) (Written 24) exit → ⊥
+pub wrap_tells_the_frames_length : (exit : List ℕ) → Wraps held 0x01020304 (replicate 37 0) (Ok 24) exit → ⊥
 wrap_tells_the_frames_length exit w = apart 24 37 tt (ap answered (w.0 ∙ ap answer_to_wrapping wrap_cases.just_room))
 
 -- a length answered, and nothing written
-pub wrap_does_not_touch_nothing : (r : code.Wrapped) → Wraps held 0x01020304 (replicate 37 0) r (replicate 37 0) → ⊥
+pub wrap_does_not_touch_nothing : (r : Result ℕ FrameRefusal) → Wraps held 0x01020304 (replicate 37 0) r (replicate 37 0) → ⊥
 wrap_does_not_touch_nothing r w =
     apart 0 2 tt (ap (λ (l : List ℕ). byte_at l 0) (w.1 ∙ ap (λ (o : WrapOutcome). after_wrapping o (replicate 37 0)) wrap_cases.just_room))
 
 -- the two COMMIDs exchanged: place 5 holds 4, and not 9
-pub acknowledge_does_not_exchange_the_commids : (r : code.Wrapped) (exit : List ℕ) → byte_at exit 5 ≡ 4 → Acknowledges 9 0x01020304 (replicate 17 0) r exit → ⊥
+pub acknowledge_does_not_exchange_the_commids : (r : Result ℕ FrameRefusal) (exit : List ℕ) → byte_at exit 5 ≡ 4 → Acknowledges 9 0x01020304 (replicate 17 0) r exit → ⊥
 acknowledge_does_not_exchange_the_commids r exit e w =
     apart 4 9 tt (sym e ∙ ap (λ (l : List ℕ). byte_at l 5) (w.1 ∙ ap (λ (o : WrapOutcome). after_wrapping o (replicate 17 0)) wrap_cases.acknowledges))
 
 -- STX left behind by a refusal
-pub acknowledge_touches_nothing_before_a_refusal : (r : code.Wrapped) → Acknowledges 9 0x01020304 (replicate 16 0) r (2 ∷ replicate 15 0) → ⊥
+pub acknowledge_touches_nothing_before_a_refusal : (r : Result ℕ FrameRefusal) → Acknowledges 9 0x01020304 (replicate 16 0) r (2 ∷ replicate 15 0) → ⊥
 acknowledge_touches_nothing_before_a_refusal r w =
     apart 2 0 tt (ap (λ (l : List ℕ). byte_at l 0) (w.1 ∙ ap (λ (o : WrapOutcome). after_wrapping o (replicate 16 0)) wrap_cases.no_room_acknowledged))
 
 -- the data length with its lowest byte first: place 8 holds 0, and not 24
-pub wrap_writes_a_big_endian_length : (r : code.Wrapped) (exit : List ℕ) → byte_at exit 8 ≡ 24 → Wraps held 0x01020304 (replicate 37 0) r exit → ⊥
+pub wrap_writes_a_big_endian_length : (r : Result ℕ FrameRefusal) (exit : List ℕ) → byte_at exit 8 ≡ 24 → Wraps held 0x01020304 (replicate 37 0) r exit → ⊥
 wrap_writes_a_big_endian_length r exit e w =
     apart 24 0 tt (sym e ∙ ap (λ (l : List ℕ). byte_at l 8) (w.1 ∙ ap (λ (o : WrapOutcome). after_wrapping o (replicate 37 0)) wrap_cases.just_room))
 
 -- a refused wrapping that leaves STX behind
-pub wrap_touches_nothing_before_a_refusal : (r : code.Wrapped) → Wraps held 0x01020304 (replicate 36 0) r (2 ∷ replicate 35 0) → ⊥
+pub wrap_touches_nothing_before_a_refusal : (r : Result ℕ FrameRefusal) → Wraps held 0x01020304 (replicate 36 0) r (2 ∷ replicate 35 0) → ⊥
 wrap_touches_nothing_before_a_refusal r w =
     apart 2 0 tt (ap (λ (l : List ℕ). byte_at l 0) (w.1 ∙ ap (λ (o : WrapOutcome). after_wrapping o (replicate 36 0)) wrap_cases.no_room))
 

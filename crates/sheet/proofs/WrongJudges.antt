@@ -1,5 +1,6 @@
 -- Judges that are wrong, and for each public function of the judge answers that a careless program would give, each refuted by computing.
 -- Whatever else such an answer says: what is refuted is one verdict, one number or one place of it.
+use Rattle.std.specs.Prelude.{Some}
 use Prim.Native.Nat.{ℕ}
 use mathlib.Core.List.{[], ◌∷◌, ◌++◌}
 use mathlib.Core.Path.{◌≡◌, ap, sym, ◌∙◌}
@@ -15,7 +16,6 @@ use Rattle.judge.specs.Division.{Divides}
 use Rattle.judge.specs.Rules.{RuleAnswer, RuleAnswers, least_rule, version_rule, flags_rule, variable_size_rule, length_rule, addresses_rule, integrity_rule, broken_rules, LowestAnswer, none_broken, lowest}
 use Rattle.judge.specs.Told.{told_verdict, told_judging, Judges, TellsLowest}
 use Rattle.judge.specs.declared.judging.Judging.{Judging}
-use Rattle.judge.specs.declared.judging.Lowest.TheVariants.{Rule}
 use Rattle.judge.specs.declared.judging.Verdict.{Verdict}
 use Rattle.judge.specs.declared.judging.Verdict.TheVariants.{Kept, Broken, NotJudged}
 use Rattle.exports.specs.Verdicts.{verdict_number, place_number}
@@ -105,19 +105,19 @@ lowest_place : LowestAnswer → ℕ
 lowest_place none_broken = 0
 lowest_place (lowest r) = r.place
 
-pub lowest_is_not_the_highest : TellsLowest judging_two (Rule (record { fault = BadIntegrity; place = 17 })) → ⊥
+pub lowest_is_not_the_highest : TellsLowest judging_two (Some (record { fault = BadIntegrity; place = 17 })) → ⊥
 unfolding lowest_number
 lowest_is_not_the_highest tells = apart 7 2 tt (ap lowest_number tells)
 
-pub lowest_is_none_where_none_is_broken : TellsLowest judging_m (Rule (record { fault = TooShort; place = 21 })) → ⊥
+pub lowest_is_none_where_none_is_broken : TellsLowest judging_m (Some (record { fault = TooShort; place = 21 })) → ⊥
 unfolding lowest_number
 lowest_is_none_where_none_is_broken tells = apart 1 0 tt (ap lowest_number tells)
 
-pub lowest_passes_over_what_was_not_judged : TellsLowest judging_m (Rule (record { fault = BadAddresses; place = 21 })) → ⊥
+pub lowest_passes_over_what_was_not_judged : TellsLowest judging_m (Some (record { fault = BadAddresses; place = 21 })) → ⊥
 unfolding lowest_number
 lowest_passes_over_what_was_not_judged tells = apart 6 0 tt (ap lowest_number tells)
 
-pub lowest_keeps_its_place : TellsLowest judging_two (Rule (record { fault = WrongVersion; place = 17 })) → ⊥
+pub lowest_keeps_its_place : TellsLowest judging_two (Some (record { fault = WrongVersion; place = 17 })) → ⊥
 unfolding lowest_place
 lowest_keeps_its_place tells = apart 17 0 tt (ap lowest_place tells)
 
