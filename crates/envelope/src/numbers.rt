@@ -76,10 +76,3 @@ pub(crate) fn four_at(bytes: &[u8], place: usize) -> u32
 {
     u32::from_be_bytes(at(bytes, place))
 }
-
-// A byte with room to be multiplied.
-pub(crate) fn wide(byte: u8) -> u32
-    ensures { (result ≡ byte) × (result < 256) }
-{
-    byte as u32
-}
