@@ -72,13 +72,13 @@ in_their_bits s h n p c ls lh ln lp lc =
     let mh : h * 512 % 65536 ≡ h * 512 = omega arith in
     let mn : n * 64 % 65536 ≡ n * 64 = omega arith in
     let mp : p * 8 % 65536 ≡ p * 8 = omega arith in
-    rw
-    ( ms
-    , mh
-    , mn
-    , mp
-    , or_above s 13 (s * 8192) (h * 512) refl (omega arith)
-    , or_above (s * 16 + h) 9 (s * 8192 + h * 512) (n * 64) (omega arith) (omega arith)
-    , or_above (s * 128 + h * 8 + n) 6 (s * 8192 + h * 512 + n * 64) (p * 8) (omega arith) (omega arith)
-    , or_above (s * 1024 + h * 64 + n * 8 + p) 3 (s * 8192 + h * 512 + n * 64 + p * 8) c (omega arith) (omega arith)
+    rw (
+      ms,
+      mh,
+      mn,
+      mp,
+      or_above s 13 (s * 8192) (h * 512) refl (omega arith),
+      or_above (s * 16 + h) 9 (s * 8192 + h * 512) (n * 64) (omega arith) (omega arith),
+      or_above (s * 128 + h * 8 + n) 6 (s * 8192 + h * 512 + n * 64) (p * 8) (omega arith) (omega arith),
+      or_above (s * 1024 + h * 64 + n * 8 + p) 3 (s * 8192 + h * 512 + n * 64 + p * 8) c (omega arith) (omega arith),
     )

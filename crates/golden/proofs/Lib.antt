@@ -15,7 +15,6 @@ pub mod PassLaws
 pub mod MakingLaws
 pub mod RetiringLaws
 pub mod MarkedLaws
-pub mod RefusalLaws
 pub mod OnlyLaws
 pub mod WalkLaws
 pub mod FoundLaws

@@ -21,12 +21,6 @@ pub struct GoodRecord {
     pub envelope: Envelope,
 }
 
-#[derive(Clone, Copy)]
-pub(crate) enum Opening {
-    Good(GoodRecord),
-    Bad(Refusal),
-}
-
 impl Record {
     pub const SIZE: usize = 512;
     // The stored length's own bytes.
@@ -62,25 +56,25 @@ impl Record {
 }
 
 // Judges the bytes of one record.
-pub(crate) fn open(bytes: &[u8]) -> Opening
+pub(crate) fn open(bytes: &[u8]) -> Result<GoodRecord, Refusal>
     requires { length bytes.now ≡ record_size }
     ensures { told_opening result ≡ opening bytes.now }
 {
     let size = stored_length(bytes);
     if bad_length(size) {
-        return Opening::Bad(Refusal::BadLength);
+        return Err(Refusal::BadLength);
     }
     let end = Record::HEAD_SIZE + size;
     if !all_zero(&bytes[end..]) {
-        return Opening::Bad(Refusal::NotClear);
+        return Err(Refusal::NotClear);
     }
     match read(&bytes[Record::HEAD_SIZE..end]) {
-        Reading::Accepted(envelope) => Opening::Good(GoodRecord {
+        Reading::Accepted(envelope) => Ok(GoodRecord {
             size,
             retired: is_retired(bytes),
             envelope,
         }),
-        Reading::Refused(refusal) => Opening::Bad(Refusal::RecordRefused(refusal)),
+        Reading::Refused(refusal) => Err(Refusal::RecordRefused(refusal)),
     }
 }
 
@@ -108,21 +102,11 @@ fn stored_word(bytes: &[u8]) -> u16
 fn bad_length(size: usize) -> bool
     ensures { result ≡ bad_length size }
 {
-    if size < Envelope::LEAST_SIZE {
-        return true;
-    }
-    Record::MESSAGE_ROOM < size
+    size < Envelope::LEAST_SIZE || Record::MESSAGE_ROOM < size
 }
 
 fn all_zero(bytes: &[u8]) -> bool
     ensures { result ≡ all_zero bytes.now }
 {
-    let mut i = 0;
-    while i < bytes.len() {
-        if bytes[i] != 0 {
-            return false;
-        }
-        i += 1;
-    }
-    true
+    bytes.iter().all(|byte| *byte == 0)
 }
