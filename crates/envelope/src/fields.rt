@@ -14,16 +14,8 @@ impl Part {
     pub fn slice<'a>(self, bytes: &'a [u8]) -> &'a [u8]
         ensures { Slices self bytes.now result.now }
     {
-        let place = self.place;
-        let size = self.size;
-        if bytes.len() <= place {
-            return &bytes[..0];
-        }
-        if bytes.len() - place <= size {
-            return &bytes[place..];
-        }
-        let end = place + size;
-        &bytes[place..end]
+        let rest = &bytes[self.place.min(bytes.len())..];
+        &rest[..self.size.min(rest.len())]
     }
 }
 
