@@ -12,7 +12,7 @@ use Rattle.envelope.specs.Promise.{Only₁, Only₂}
 use Rattle.envelope.specs.Refusals.{Refused, plainly, passing_on}
 use Rattle.envelope.specs.Told.{told_part, told_envelope}
 use Rattle.envelope.specs.declared.reader.Refusal as reader
-use Rattle.envelope.specs.declared.reader.Reading.TheVariants.{Accepted}
+use Rattle.envelope.specs.declared.fields.Envelope.{Envelope}
 use Rattle.frame.specs.Capturing.{MeasuresFirst}
 use Rattle.frame.specs.Wrapping.{WrapOutcome, wrapping, acknowledging, WrapAnswer, wrote, refused, answer_to_wrapping, told_wrapped, Answers, Wraps, Acknowledges}
 use Rattle.frame.specs.Unwrapping.{message, told_unwrapped, Unwraps}
@@ -78,8 +78,8 @@ same_capture c d s p e =
     let ec : c.commid ≡ d.commid = cc in
     let ep : told_part c.message ≡ told_part d.message = cc in
     let ef : told_envelope c.envelope ≡ told_envelope d.envelope = cc in
-    let both : Accepted c.envelope ≡ Accepted d.envelope =
-    only_reads (part_of s (told_part c.message)) (Accepted c.envelope) (Accepted d.envelope) (sym k.reads) (ap accepted (sym ef) ∙ sym k.reads) in
+    let both : ◌≡◌ {A = Result Envelope reader.Refusal} (Ok c.envelope) (Ok d.envelope) =
+    only_reads (part_of s (told_part c.message)) (Ok c.envelope) (Ok d.envelope) (sym k.reads) (ap accepted (sym ef) ∙ sym k.reads) in
     let ee : c.envelope ≡ d.envelope = cc in
     λ i. record { commid = ec i; message = record { place = (ep i).place; size = (ep i).size }; envelope = ee i }
 

@@ -9,7 +9,7 @@ use crate::frame_type::FrameType;
 use crate::layout;
 use crate::refusal::Refusal;
 use envelope::numbers::four_bytes;
-use envelope::{Envelope, Part, Reading, read};
+use envelope::{Envelope, Part, read};
 
 // A data message: the EMP message is a part of the frame's bytes; the envelope's own parts count from the message's first byte.
 #[derive(Clone, Copy)]
@@ -91,23 +91,23 @@ fn carried_by(bytes: &[u8], frame_type: FrameType, end: usize) -> Result<Unwrapp
                 acknowledged,
             }))
         }
-        FrameType::Data => match read(&bytes[layout::BODY_PLACE..end]) {
-            Reading::Accepted(envelope) => {
-                let message = Part {
-                    place: layout::BODY_PLACE,
-                    size: end - layout::BODY_PLACE,
-                };
-                Ok(Unwrapped::Data(DataMessage {
-                    commid,
-                    message,
-                    envelope,
-                }))
-            }
-            Reading::Refused(refusal) => Err(Refusal::from(refusal)),
-        },
+        FrameType::Data => {
+            let envelope = read(&bytes[layout::BODY_PLACE..end])?;
+            let message = Part {
+                place: layout::BODY_PLACE,
+                size: end - layout::BODY_PLACE,
+            };
+            Ok(Unwrapped::Data(DataMessage {
+                commid,
+                message,
+                envelope,
+            }))
+        }
     }
 }
 
+// That of `envelope` is not public, for it requires the bytes to be there, which no public function may.
+#[tactic(auto, unfolding(envelope::specs::Numbers::four_at))]
 pub(crate) fn four_at(bytes: &[u8], place: usize) -> u32
     requires { place + 4 ≤ length bytes.now }
     ensures { result ≡ four_at bytes.now place }

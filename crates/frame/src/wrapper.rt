@@ -10,22 +10,18 @@ use crate::frame_type::FrameType;
 use crate::layout;
 use crate::refusal::Refusal;
 use envelope::numbers::four_digits;
-use envelope::{Reading, read};
+use envelope::read;
 
 pub fn wrap(message: &[u8], commid: u32, buffer: &mut [u8]) -> Result<usize, Refusal>
     ensures { Wraps message.now commid buffer.old result buffer.new }
 {
-    match read(message) {
-        Reading::Refused(refusal) => Err(Refusal::from(refusal)),
-        Reading::Accepted(_) => {
-            let size = layout::LEAST_SIZE + message.len();
-            if buffer.len() < size {
-                return Err(Refusal::NoRoom);
-            }
-            put_frame(FrameType::Data, commid, message, buffer);
-            Ok(size)
-        }
+    read(message)?;
+    let size = layout::LEAST_SIZE + message.len();
+    if buffer.len() < size {
+        return Err(Refusal::NoRoom);
     }
+    put_frame(FrameType::Data, commid, message, buffer);
+    Ok(size)
 }
 
 // Acknowledges a COMMID; the acknowledgment has a COMMID of its own.

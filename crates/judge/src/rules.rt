@@ -2,7 +2,7 @@
 // Each looks whether its own bytes are there, and at nothing that another rule found.
 ghost use Rattle.std.specs.Prelude.{◌≡◌, not, ◌+◌, ◌<◌, ◌≤◌, length};
 ghost use Rattle.envelope.specs.Addresses.{first_zero, two_addresses};
-ghost use Rattle.envelope.specs.Flags.{kind_of, bad_flags};
+ghost use Rattle.envelope.specs.Flags.{told_kind, kind_of, bad_flags};
 ghost use Rattle.envelope.specs.Heading.{variable_size, field_place, bad_variable_size};
 ghost use Rattle.envelope.specs.IntegrityField.{bad_integrity};
 ghost use Rattle.envelope.specs.Layout.{header_size, field_size};
@@ -11,14 +11,8 @@ ghost use Rattle.judge.specs.Told.{told_verdict};
 
 use crate::division::divide;
 use crate::judging::Verdict;
-use envelope::Envelope;
 use envelope::numbers::{four_bytes, three_bytes};
-
-const KIND_NONE: u8 = 0;
-
-const KIND_CRC: u8 = 1;
-
-const KIND_UNASSIGNED: u8 = 3;
+use envelope::{Envelope, Kind};
 
 // 1: fewer than 21 bytes.
 #[tactic(auto, unfolding(crate::specs::Rules::least_rule))]
@@ -135,7 +129,7 @@ fn verdict(place: usize, broken: bool) -> Verdict
 fn bad_flags(flags: u8) -> bool
     ensures { result ≡ bad_flags flags }
 {
-    flags / 32 != 0 || kind_in(flags) == KIND_UNASSIGNED
+    flags / 32 != 0 || kind_in(flags) == Kind::Unassigned
 }
 
 #[tactic(auto, unfolding(envelope::specs::Heading::bad_variable_size))]
@@ -157,9 +151,9 @@ fn bad_region(region: &[u8]) -> bool
     Envelope::LARGEST_ADDRESS <= destination || source + 1 + (destination + 1) != region.len()
 }
 
-fn bad_integrity(bytes: &[u8], kind: u8, place: usize) -> bool
+fn bad_integrity(bytes: &[u8], kind: Kind, place: usize) -> bool
     requires { place + field_size ≤ length bytes.now }
-    ensures { result ≡ bad_integrity bytes.now kind place }
+    ensures { result ≡ bad_integrity bytes.now (told_kind kind) place }
 {
     let held = four_bytes(
         bytes[place],
@@ -167,20 +161,23 @@ fn bad_integrity(bytes: &[u8], kind: u8, place: usize) -> bool
         bytes[place + 2],
         bytes[place + 3],
     );
-    if kind == KIND_NONE {
-        return held != 0;
+    match kind {
+        Kind::None => held != 0,
+        Kind::Crc => held != divide(&bytes[..place]),
+        Kind::Application | Kind::Unassigned => false,
     }
-    if kind == KIND_CRC {
-        return held != divide(&bytes[..place]);
-    }
-    false
 }
 
-// Bits 3 and 4 of the flags.
-fn kind_in(flags: u8) -> u8
-    ensures { result ≡ kind_of flags }
+// Bits 3 and 4 of the flags. This and `first_zero` are the judge's own: a slip in the first reader's code is not to be repeated here.
+fn kind_in(flags: u8) -> Kind
+    ensures { told_kind result ≡ kind_of flags }
 {
-    flags / 8 % 4
+    match flags / 8 % 4 {
+        0 => Kind::None,
+        1 => Kind::Crc,
+        2 => Kind::Application,
+        _ => Kind::Unassigned,
+    }
 }
 
 // V. A byte, which is said too: the sums below then stay in bounds.
@@ -209,12 +206,8 @@ fn place_in(bytes: &[u8]) -> usize
 fn first_zero(bytes: &[u8]) -> usize
     ensures { result ≡ first_zero bytes.now }
 {
-    let mut i = 0;
-    while i < bytes.len() {
-        if bytes[i] == 0 {
-            return i;
-        }
-        i += 1;
-    }
-    i
+    bytes
+        .iter()
+        .position(|byte| *byte == 0)
+        .unwrap_or(bytes.len())
 }

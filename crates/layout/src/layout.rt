@@ -1,14 +1,13 @@
 // The layout of a message: where its destination and its body begin, as its bytes state it.
 // Rests on `envelope` for the table's numbers; it takes any bytes, and one that is not there counts as 0.
-ghost use Rattle.std.specs.Prelude.{◌≡◌, ◌-◌, ◌<◌, ◌≤◌, length};
-ghost use Rattle.envelope.specs.Addresses.{region_of, first_zero, source_size};
+ghost use Rattle.std.specs.Prelude.{◌≡◌, ◌<◌};
+ghost use Rattle.envelope.specs.Addresses.{region_of, source_size};
 ghost use Rattle.envelope.specs.Heading.{variable_size, data_length};
-ghost use Rattle.envelope.specs.Layout.{routing_size};
 ghost use Rattle.envelope.specs.Numbers.{byte_at};
 ghost use Rattle.layout.specs.Layout.{LaidOut};
 
 use envelope::numbers::three_bytes;
-use envelope::{Envelope, Part};
+use envelope::{Envelope, Part, first_zero};
 
 // The places by which one message's fields differ from another's.
 #[derive(Clone, Copy)]
@@ -60,20 +59,6 @@ fn source_size(message: &[u8], v: usize) -> usize
         size: v.saturating_sub(Envelope::ROUTING_SIZE),
     };
     first_zero(region.slice(message))
-}
-
-// How many bytes stand before the first zero: all, where there is none.
-fn first_zero(bytes: &[u8]) -> usize
-    ensures { (result ≡ first_zero bytes.now) × (result ≤ length bytes.now) }
-{
-    let mut i = 0;
-    while i < bytes.len() {
-        if bytes[i] == 0 {
-            return i;
-        }
-        i += 1;
-    }
-    i
 }
 
 fn byte_at(bytes: &[u8], place: usize) -> u8
