@@ -5,7 +5,7 @@ use mathlib.Core.List.{List}
 use Prim.Native.Nat.{ℕ, suc, ◌+◌, ◌-◌, ◌*◌, ◌/◌, ◌%◌, ◌^◌, ◌≤◌, ◌<◌}
 use native.Mathlib.Nat.{zero-add, mod-lt, mod-eq_of_lt, div-eq_of_lt, lt_of_le_of_lt}
 use native.Mathlib.Omega.{arith}
-use lib.Bits.{bit_xor, xor_comm, xor_zero_r, xor_lt, xor_shifted, xor_mod, xor_shr}
+use lib.Bits.{bit_xor, xor_comm, xor_zero_r, xor_lt, xor_shifted, xor_mod, xor_shr, xor_assoc}
 use lib.Dec.{lit≤}
 use lib.ListN.{length, get_or, take, drop, length-drop, drop_of_length-le}
 use lib.Pow.{split, pow_pos, shl_exact, shl-shr, shr-shr, shr_le}
@@ -20,7 +20,6 @@ use Rattle.sum.proofs.Digits.{number-take, number-drop}
 use Rattle.sum.proofs.Shifts.{lower, upper, lower_lt, folded, folded_is}
 use Rattle.sum.proofs.Steps.{bit_steps_linear, bit_steps-add, bit_steps_past, bit_steps_low}
 use Rattle.sum.proofs.Sums.{state_after_number}
-use Rattle.sum.proofs.Xor.{xor_assoc}
 
 -- what is added to the lower word alone
 xor_low : (a x l : ℕ) → x < 2 ^ 64 → l < 2 ^ 64 → bit_xor (a * 2 ^ 64 + x) l ≡ a * 2 ^ 64 + bit_xor x l
