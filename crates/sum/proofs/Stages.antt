@@ -1,14 +1,13 @@
 -- The stages of `crc`: what each step does to what is pending, the bytes that a step takes, and the end.
 -- All along, what is pending, with the bytes to come added, leads to the state after all bytes.
-use mathlib.Core.Path.{◌≡◌, refl, sym, ap, ap₂, ◌∙◌, subst}
+use mathlib.Core.Path.{◌≡◌, sym, ap, ap₂, ◌∙◌, subst}
 use mathlib.Core.List.{List}
 use Prim.Native.Nat.{ℕ, suc, ◌+◌, ◌-◌, ◌*◌, ◌/◌, ◌%◌, ◌^◌, ◌≤◌, ◌<◌}
-use native.Mathlib.Nat.{zero-add, mod-lt, mod-eq_of_lt, div-eq_of_lt, lt_of_le_of_lt}
+use native.Mathlib.Nat.{add-zero, zero-add, mod-lt, mod-eq_of_lt, div-eq_of_lt, lt_of_le_of_lt}
 use native.Mathlib.Omega.{arith}
-use lib.Bits.{bit_xor, xor_comm, xor_zero_r, xor_lt, xor_shifted, xor_mod, xor_shr}
-use lib.Dec.{lit≤}
+use lib.Bits.{bit_xor, xor_comm, xor_zero_r, xor_lt, xor_shifted, xor_mod, xor_shr, xor_assoc}
 use lib.ListN.{length, get_or, take, drop, length-drop, drop_of_length-le}
-use lib.Pow.{split, pow_pos, shl_exact, shl-shr, shr-shr, shr_le}
+use lib.Pow.{split, pow_pos, pow-add, shl-shr, shr-shr, shr_le, shr_lt, high, low, mod-mod-pow, mod-pow-add}
 use lib.Seq.{drop-cons, drop-drop, length-take-le}
 use Rattle.sum.specs.Crc.{all_ones, bit_steps, state_after}
 use Rattle.sum.specs.Detection.{Bytes}
@@ -20,7 +19,6 @@ use Rattle.sum.proofs.Digits.{number-take, number-drop}
 use Rattle.sum.proofs.Shifts.{lower, upper, lower_lt, folded, folded_is}
 use Rattle.sum.proofs.Steps.{bit_steps_linear, bit_steps-add, bit_steps_past, bit_steps_low}
 use Rattle.sum.proofs.Sums.{state_after_number}
-use Rattle.sum.proofs.Xor.{xor_assoc}
 
 -- what is added to the lower word alone
 xor_low : (a x l : ℕ) → x < 2 ^ 64 → l < 2 ^ 64 → bit_xor (a * 2 ^ 64 + x) l ≡ a * 2 ^ 64 + bit_xor x l
@@ -89,21 +87,55 @@ bits_taken k m n p a b s word hp hb hs high parts low e =
     rest_lt : rest < 2 ^ 64
     rest_lt = xor_lt 64 ((a * 2 ^ m) % 2 ^ 64) (p / 2 ^ k) (mod-lt (a * 2 ^ m) (pow_pos 64)) (lt_of_le_of_lt (shr_le p k) hp)
 
-pub half_taken : (n p a b s : ℕ) → p < 2 ^ 64 → b < 2 ^ 32 → s < 2 ^ 64 → s ≡ bit_steps 32 (bit_xor p b % 2 ^ 32)
-    → bit_steps (32 + n) (bit_xor (a * 2 ^ 64 + p) b)
-    ≡ bit_steps n (a / 2 ^ 32 * 2 ^ 64 + bit_xor (bit_xor ((a * 2 ^ 32) % 2 ^ 64) (p / 2 ^ 32)) s)
-half_taken n p a b s hp hb hs e =
-    bits_taken 32 32 n p a b s refl hp hb hs (omega arith) (omega arith) (omega arith)
-    (e ∙ ap (bit_steps 32) (xor_mod p b 32 ∙ ap (bit_xor (p % 2 ^ 32)) (mod-eq_of_lt hb)))
+regrouped : (a m k q r : ℕ) → a * (m * k) + (q * k + r) ≡ (a * m + q) * k + r
+regrouped a m k q r = omega arith
 
--- the byte at the top of 32 bits
-pub byte_taken : (n p a b s : ℕ) → p < 2 ^ 64 → b < 2 ^ 8 → s < 2 ^ 64 → s ≡ bit_steps 32 ((bit_xor (p % 2 ^ 8) b * 2 ^ 24) % 2 ^ 32)
-    → bit_steps (8 + n) (bit_xor (a * 2 ^ 64 + p) b)
-    ≡ bit_steps n (a / 2 ^ 8 * 2 ^ 64 + bit_xor (bit_xor ((a * 2 ^ 56) % 2 ^ 64) (p / 2 ^ 8)) s)
-byte_taken n p a b s hp hb hs e =
-    bits_taken 8 56 n p a b s refl hp hb hs (omega arith) (omega arith) (omega arith)
-    (e ∙ ap (bit_steps 32) (shl_exact 8 24 32 (xor_lt 8 (p % 2 ^ 8) b (mod-lt p (pow_pos 8)) hb) (lit≤ tt))
-    ∙ bit_steps_past 24 8 (bit_xor (p % 2 ^ 8) b))
+-- at most 32 bits, taken at the top of 32
+pub few_taken : (k n p a b s : ℕ) → k ≤ 32 → p < 2 ^ 64 → b < 2 ^ k → s < 2 ^ 64 → s ≡ bit_steps 32 ((bit_xor p b * 2 ^ (32 - k)) % 2 ^ 64 % 2 ^ 32)
+    → bit_steps (k + n) (bit_xor (a * 2 ^ 64 + p) b)
+    ≡ bit_steps n (a / 2 ^ k * 2 ^ 64 + bit_xor (bit_xor ((a * 2 ^ (64 - k)) % 2 ^ 64) (p / 2 ^ k)) s)
+few_taken k n p a b s few hp hb hs e =
+    bits_taken k m n p a b s word hp hb hs (shr_lt m k (rw word hp))
+    (ap (λ (z : ℕ). z / 2 ^ k) parts ∙ high (a * 2 ^ m + p / 2 ^ k) k (mod-lt p (pow_pos k)))
+    (ap (λ (z : ℕ). z % 2 ^ k) parts ∙ low (a * 2 ^ m + p / 2 ^ k) k (mod-lt p (pow_pos k)))
+    (e ∙ top)
+  where
+    w : ℕ
+    w = bit_xor p b
+
+    m : ℕ
+    m = 64 - k
+
+    j : ℕ
+    j = 32 - k
+
+    word : m + k ≡ 64
+    word = omega arith
+
+    half : k + j ≡ 32
+    half = omega arith
+
+    front : j + k ≡ 32
+    front = omega arith
+
+    parts : a * 2 ^ 64 + p ≡ (a * 2 ^ m + p / 2 ^ k) * 2 ^ k + p % 2 ^ k
+    parts =
+        ap₂ (λ (z t : ℕ). a * z + t) (ap (λ (t : ℕ). 2 ^ t) (sym word) ∙ pow-add 2 m k) (sym (split p k))
+        ∙ regrouped a (2 ^ m) (2 ^ k) (p / 2 ^ k) (p % 2 ^ k)
+
+    last : (w * 2 ^ j) % 2 ^ 32 ≡ w % 2 ^ k * 2 ^ j
+    last =
+        ap (λ (t : ℕ). (w * 2 ^ j) % 2 ^ t) (sym half)
+        ∙ mod-pow-add (w * 2 ^ j) k j
+        ∙ ap₂ (λ (x y : ℕ). x % 2 ^ k * 2 ^ j + y) (shl-shr w j) (ap (λ (x : ℕ). x % 2 ^ j) (sym (add-zero (w * 2 ^ j))) ∙ low w j (pow_pos j))
+        ∙ add-zero (w % 2 ^ k * 2 ^ j)
+
+    top : bit_steps 32 ((w * 2 ^ j) % 2 ^ 64 % 2 ^ 32) ≡ bit_steps k (bit_xor (p % 2 ^ k) b)
+    top =
+        ap (bit_steps 32) (mod-mod-pow (w * 2 ^ j) 32 32 ∙ last)
+        ∙ ap (λ (l : ℕ). bit_steps l (w % 2 ^ k * 2 ^ j)) (sym front)
+        ∙ bit_steps_past j k (w % 2 ^ k)
+        ∙ ap (bit_steps k) (xor_mod p b k ∙ ap (bit_xor (p % 2 ^ k)) (mod-eq_of_lt hb))
 
 -- ---- from stage to stage
 

@@ -12,7 +12,7 @@
 // shifted out, and what their bit steps leave, 32 steps at once (`settle`), is added.
 #![tactic(auto)]
 
-ghost use Rattle.std.specs.Prelude.{◌≡◌, ◌^◌, ◌<◌};
+ghost use Rattle.std.specs.Prelude.{◌≡◌, ◌^◌, ◌<◌, ◌≤◌};
 ghost use Rattle.sum.specs.Crc.{all_ones, bit_steps, state_after};
 ghost use Rattle.sum.specs.Promise.{Sums};
 ghost use Rattle.sum.specs.Words.{Takes, leads_to};
@@ -66,13 +66,14 @@ fn by_words(bytes: &[u8]) -> Stage<'_>
     Stage { rest, pending }
 }
 
-// Four bytes at a time, while there are four.
+// Four bytes at a time, while there are four. No function is generic over the three loops: the library reads eight bytes and four by two
+// functions of its own, only words need room behind them, and a trait for that is longer than the loops.
 fn by_halves(bytes: &[u8], mut pending: Pending) -> Stage<'_>
     ensures { leads_to result.rest.now result.pending ≡ leads_to bytes.now pending }
 {
     let mut rest = bytes;
     while let Some((half, after)) = rest.split_first_chunk() {
-        pending = half_step(pending, u32::from_le_bytes(*half));
+        pending = bits_step::<32>(pending, u32::from_le_bytes(*half));
         rest = after;
     }
     Stage { rest, pending }
@@ -84,7 +85,7 @@ fn by_bytes(bytes: &[u8], mut pending: Pending) -> u32
     ensures { result ≡ leads_to bytes.now pending }
 {
     for byte in bytes {
-        pending = byte_step(pending, *byte);
+        pending = bits_step::<8>(pending, u32::from(*byte));
     }
     pending.word as u32
 }
@@ -105,26 +106,17 @@ fn word_step(pending: Pending, word: u64) -> Pending
     }
 }
 
-// Four bytes: they are shifted out, and what their bit steps leave is added.
-fn half_step(pending: Pending, half: u32) -> Pending
-    ensures { Takes 32 0 pending half result }
+// At most 32 bits: they are shifted out, and what their bit steps leave is added. These are the last of 32, with zeros in front.
+fn bits_step<const BITS: u32>(pending: Pending, bits: u32) -> Pending
+    requires few { (0 < BITS) × (BITS ≤ 32) }
+    requires fits { bits < 2 ^ BITS }
+    ensures { Takes BITS 0 pending bits result }
 {
-    let left = settle(((pending.word ^ u64::from(half)) % 0x1_0000_0000) as u32);
+    let top = ((pending.word ^ u64::from(bits)) << (32 - BITS)) % 0x1_0000_0000;
+    let left = settle(top as u32);
     Pending {
-        word: (pending.after << 32) ^ (pending.word >> 32) ^ u64::from(left),
-        after: pending.after >> 32,
-    }
-}
-
-// One byte, likewise: its eight bit steps are the last of 32, with zeros in front.
-fn byte_step(pending: Pending, byte: u8) -> Pending
-    ensures { Takes 8 0 pending byte result }
-{
-    let low = ((pending.word % 256) as u8) ^ byte;
-    let left = settle(u32::from(low) << 24);
-    Pending {
-        word: (pending.after << 56) ^ (pending.word >> 8) ^ u64::from(left),
-        after: pending.after >> 8,
+        word: (pending.after << (64 - BITS)) ^ (pending.word >> BITS) ^ u64::from(left),
+        after: pending.after >> BITS,
     }
 }
 

@@ -7,8 +7,8 @@ use Rattle.sum.proofs.by_bytes.Goals as goal
 pub loop-byte-preserved : goal.loop-byte-preserved
 loop-byte-preserved c =
     let at = c.loop-byte in
-    byte_on c.args.bytes.now at.byte-index at.pending c.byte_step-pending.result (λ k. (c.type_inv.bytes k).fits) c.loop-byte-test.true
-    c.byte_step-pending.ensures
+    byte_on c.args.bytes.now at.byte-index at.pending c.bits_step-pending.result (λ k. (c.type_inv.bytes k).fits) c.loop-byte-test.true
+    (rw c.from.ensures at c.bits_step-pending.ensures)
     ∙ at.invariant
 
 pub returns : goal.returns

@@ -9,6 +9,6 @@ loop-half-preserved c =
     let at = c.loop-half in
     let cut = c.in-Some.ensures.cases in
     let on =
-    chunk_on at.rest.now c.in-Some.half.now c.in-Some.after.now 3 0 at.pending c.from_le_bytes.result c.half_step-pending.result
-    at.invariant.0 cut.0 cut.1 cut.2 (omega arith) c.from_le_bytes.ensures c.half_step-pending.ensures in
+    chunk_on at.rest.now c.in-Some.half.now c.in-Some.after.now 3 0 at.pending c.from_le_bytes.result c.bits_step-pending.result
+    at.invariant.0 cut.0 cut.1 cut.2 (omega arith) c.from_le_bytes.ensures c.bits_step-pending.ensures in
     (on.0, on.1 ∙ at.invariant.1)
