@@ -55,7 +55,7 @@ tells_held =
 abbrev tells_reply : Acknowledgment
 tells_reply = record { commid = 9; acknowledged = 0x01020304 }
 
-unwraps_carrier : Unwraps carrier (Ok (Data tells_held)
+unwraps_carrier : Unwraps carrier (Ok (Data tells_held))
 unwraps_carrier = sym unwrap_cases.data_frame_lem
 
 -- ---- the round trips
@@ -68,7 +68,7 @@ wrote_it : (o : WrapOutcome) (n : ℕ) (s : List ℕ) → o ≡ written s → n 
     → (told_wrapped (Ok n) ≡ answer_to_wrapping o) × (put_down s (replicate n 0) ≡ after_wrapping o (replicate n 0))
 wrote_it o n s e l = rw e (ap wrote l, refl)
 
-pub held_wrapped_buffer_then_unwrapped : TellsMessage (Ok (Data tells_held) carrier 0x01020304 held
+pub held_wrapped_buffer_then_unwrapped : TellsMessage (Ok (Data tells_held)) carrier 0x01020304 held
 held_wrapped_buffer_then_unwrapped =
     wrapped_buffer_then_unwrapped held 0x01020304 (replicate 37 0) carrier (Ok 37) 37 (Ok (Data tells_held)) (wrote_it _ 37 carrier wrap_cases.just_room refl) refl unwraps_carrier
 

@@ -28,6 +28,7 @@ use Rattle.envelope.specs.Rewriting.{Rewrites}
 use Rattle.envelope.specs.RoundTrips.{ReadsAs, HandsOut}
 use Rattle.envelope.specs.Told.{Reads}
 use Rattle.envelope.specs.Writing.{WriteOutcome, written, refused, writing, answer_to_writing, after_writing, wrote, told_writing, Writes, has_zero, bad_end, stray_integrity}
+use Rattle.envelope.specs.declared.rewriter.RewriteFault.TheVariants.{Refused as RewriteRefused}
 use Rattle.envelope.specs.declared.reader.Fault.TheVariants.{TooShort}
 use Rattle.envelope.specs.declared.writer.WriteFault.TheVariants.{NoRoom}
 use Rattle.golden.specs.Beginning.{is_proper_beginning}
@@ -47,6 +48,8 @@ use Rattle.golden.specs.Stepping as step
 use Rattle.golden.specs.Retiring.{marked, done, retiring}
 use Rattle.golden.specs.Theorems.{Passed, FirstRefused, FirstNamed, no_file, MadeGood, InOrder}
 use Rattle.golden.specs.Walking.{Walks}
+use Rattle.golden.specs.declared.refusal.Refusal.{Refusal as GoldenRefusal}
+use Rattle.golden.specs.declared.stepper.Stored.{Stored}
 use Rattle.golden.specs.declared.refusal.Refusal.TheVariants.{NotAGoldenFile, NoRecord, BadLength, WrongBuffer}
 use Rattle.golden.specs.declared.walker.Walk.{Walk}
 use Rattle.exports.specs.Envelopes.{ReadsForC}
@@ -393,10 +396,10 @@ short_M = rw starred.b (refl, refl)
 pub the_fields_stayed : ◌≡◌ {A = List ℕ} (9 ∷ []) (9 ∷ [])
 the_fields_stayed = refused_read_for_c_keeps (take 20 M) (9 ∷ []) (1 + 20 * 4294967296) (9 ∷ []) short_M (λ e. apart 1 0 tt e)
 
-rewrites_short_M : Rewrites (take 20 M) (9 ∷ []) (Err (record { fault = TooShort; place = 20 })) (9 ∷ [])
+rewrites_short_M : Rewrites (take 20 M) (9 ∷ []) (Err (RewriteRefused (record { fault = TooShort; place = 20 }))) (9 ∷ [])
 rewrites_short_M = rw starred.b (refl, refl)
 
 pub the_buffer_stayed : ◌≡◌ {A = List ℕ} (9 ∷ []) (9 ∷ [])
 the_buffer_stayed =
-    a_refused_rewrite_writes_nothing (take 20 M) (9 ∷ []) (9 ∷ []) (Err (record { fault = TooShort; place = 20 })) rewrites_short_M
+    a_refused_rewrite_writes_nothing (take 20 M) (9 ∷ []) (9 ∷ []) (Err (RewriteRefused (record { fault = TooShort; place = 20 }))) rewrites_short_M
     (λ n e. let z : ◌≡◌ {A = ℕ} 0 1 = cc in omega arith)

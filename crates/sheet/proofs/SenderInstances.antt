@@ -1,6 +1,6 @@
 -- No theorem about the sender is empty: for each a history or a run in which its hypotheses hold, computed, and what the theorem then says of it.
 -- The history is that of the cases: 7 fails, 8 is acknowledged, 7 is used again and is in flight, 9 waits.
-use Rattle.std.specs.Prelude.{Err, Some, None}
+use Rattle.std.specs.Prelude.{Ok, Err, Some, None}
 use Prim.Native.Nat.{ℕ, zero, suc, ◌+◌, ◌≤◌, ◌<◌}
 use mathlib.Core.Bool.{true, false}
 use mathlib.Core.List.{List, [], ◌∷◌, ◌++◌}
@@ -17,7 +17,7 @@ use Rattle.sender.specs.Reuse.{accepts, ends}
 use Rattle.sender.specs.Runs.{Ran, begun, asked as call, Follows, Shown}
 use Rattle.sender.specs.Sends.{sends, AllSent}
 use Rattle.sender.specs.Told.{queue_of, stored, state_of, Starts, Answers}
-use Rattle.sender.specs.declared.bench.Answer.TheVariants.{Sent, Waits, Settled, Failed, Refused}
+use Rattle.sender.specs.declared.bench.Answer.TheVariants.{Sent, Waits, Settled, Failed}
 use Rattle.sender.specs.declared.bench.Bench.{Bench}
 use Rattle.sender.specs.declared.refusal.Refusal.TheVariants.{Known, TooManyResends}
 use Rattle.sheet.specs.SenderCases.{asked, told, nearly_full, full}
@@ -123,38 +123,23 @@ beside_eight = record { resends = 0; flight = Some (record { commid = 7; left = 
 abbrev eight_flies : Bench
 eight_flies = record { resends = 0; flight = Some (record { commid = 8; left = 0 }); count = 0 }
 
-abbrev went : Step
-went = record { answer = Sent; bench = flies }
-
-abbrev turned : Step
-turned = record { answer = Refused Known; bench = flies }
-
-abbrev waited : Step
-waited = record { answer = Waits; bench = beside_eight }
-
-abbrev gave_up : Step
-gave_up = record { answer = Failed (Goes 8); bench = eight_flies }
-
-abbrev settled : Step
-settled = record { answer = Settled Nothing; bench = start }
-
-went_out_lem : Answers (submit 7) start anything went (stored [])
+went_out_lem : Answers (submit 7) start anything (Ok Sent) flies (stored [])
 unfolding submitting among
 went_out_lem = refl
 
-turned_away : Answers (submit 7) flies (stored []) turned (stored [])
+turned_away : Answers (submit 7) flies (stored []) (Err Known) flies (stored [])
 unfolding submitting among
 turned_away = refl
 
-waited_behind : Answers (submit 8) flies (stored []) waited (stored (8 ∷ []))
+waited_behind : Answers (submit 8) flies (stored []) (Ok Waits) beside_eight (stored (8 ∷ []))
 unfolding submitting among
 waited_behind = refl
 
-timed_out : Answers (time_out 7) beside_eight (stored (8 ∷ [])) gave_up (stored [])
+timed_out : Answers (time_out 7) beside_eight (stored (8 ∷ [])) (Ok (Failed (Some 8))) eight_flies (stored [])
 unfolding naking
 timed_out = refl
 
-was_settled : Answers (ack 8) eight_flies (stored []) settled (stored [])
+was_settled : Answers (ack 8) eight_flies (stored []) (Ok (Settled None)) start (stored [])
 unfolding acking
 was_settled = refl
 
@@ -170,10 +155,10 @@ this_run =
     call
     (call
     (call
-    (call (call (begun start anything refl) (submit 7) went (stored []) went_out_lem) (submit 7) turned (stored []) turned_away)
-    (submit 8) waited (stored (8 ∷ [])) waited_behind)
-    (time_out 7) gave_up (stored []) timed_out)
-    (ack 8) settled (stored []) was_settled
+    (call (call (begun start anything refl) (submit 7) (Ok Sent) flies (stored []) went_out_lem) (submit 7) (Err Known) flies (stored []) turned_away)
+    (submit 8) (Ok Waits) beside_eight (stored (8 ∷ [])) waited_behind)
+    (time_out 7) (Ok (Failed (Some 8))) eight_flies (stored []) timed_out)
+    (ack 8) (Ok (Settled None)) start (stored []) was_settled
 
 pub shown : Shown 0 five_lines start (stored [])
 shown = what_became 0 five_lines start (stored []) this_run
@@ -182,22 +167,22 @@ pub these_events : Follows 0 five_lines (queue_of (state_of (stored []) start))
 these_events = run_is_history 0 five_lines start (stored []) this_run
 
 -- 7 may be used again
-seven_again : Answers (submit 7) start (stored []) went (stored [])
+seven_again : Answers (submit 7) start (stored []) (Ok Sent) flies (stored [])
 unfolding submitting among
 seven_again = refl
 
 pub seven_in_the_run : accepts sent ≡ true
 unfolding submissions fate among those
-seven_in_the_run = usable_in_run 0 five_lines start (stored []) 7 went (stored []) this_run refl refl (lit< tt) seven_again
+seven_in_the_run = usable_in_run 0 five_lines start (stored []) 7 (Ok Sent) flies (stored []) this_run refl refl (lit< tt) seven_again
 
 pub kept_as_it_was : (◌≡◌ {A = List ℕ} (stored []) (stored [])) × (flies ≡ flies)
-kept_as_it_was = refusal_keeps (submit 7) flies (stored []) turned (stored []) Known turned_away refl
+kept_as_it_was = refusal_keeps (submit 7) flies (stored []) (Err Known) flies (stored []) Known turned_away refl
 
 pub gives_71 : Gives (70 ∷ 71 ∷ []) [] (plainly 71)
-gives_71 = event_gives (submit 7) flies (stored []) turned (stored []) Known turned_away refl
+gives_71 = event_gives (submit 7) flies (stored []) (Err Known) flies (stored []) Known turned_away refl
 
 pub the_queue_after : queue_of (state_of (stored []) flies) ≡ (answering (submit 7) (queue_of (state_of anything start))).after
-the_queue_after = (answers_as_queue (submit 7) start anything went (stored []) went_out_lem).1
+the_queue_after = (answers_as_queue (submit 7) start anything (Ok Sent) flies (stored []) went_out_lem).1
 
 -- ---- for C: the same two calls, and a start that is refused; numbers that no call leaves there are some bench too
 
@@ -212,10 +197,10 @@ unfolding submitting among
 c_went_out = (refl, refl)
 
 pub c_says_so : word (slots 0 0 1 0) ≡ word (reply_slots sent)
-c_says_so = (event_for_c_is_event (submit 7) start lent_at_first (word (slots 0 0 1 0)) lent_then went (stored []) refl c_went_out went_out_lem).0
+c_says_so = (event_for_c_is_event (submit 7) start lent_at_first (word (slots 0 0 1 0)) lent_then (Ok Sent) flies (stored []) refl c_went_out went_out_lem).0
 
 pub c_keeps_the_bench : StoresBench (0 ∷ 0 ∷ 7 ∷ 1 ∷ []) flies
-c_keeps_the_bench = event_leaves_the_bench (submit 7) start lent_at_first (word (slots 0 0 1 0)) lent_then went (stored []) refl c_went_out went_out_lem (lit< tt, (lit< tt, lit< tt))
+c_keeps_the_bench = event_leaves_the_bench (submit 7) start lent_at_first (word (slots 0 0 1 0)) lent_then (Ok Sent) flies (stored []) refl c_went_out went_out_lem (lit< tt, (lit< tt, lit< tt))
 
 c_turned_away : AnswersForC (submit 7) lent_then (word (slots 71 0 0 0)) lent_then
 unfolding submitting among

@@ -29,7 +29,9 @@ use Rattle.envelope.specs.Sequence.{steps_on, Distance, JudgesSequence}
 use Rattle.envelope.specs.Told.{NumbersFault, Slices, Reads, Holds}
 use Rattle.envelope.specs.Writing.{WriteOutcome, written, writing, after_writing, has_zero, bad_end, stray_integrity, NumbersWriteFault, Writes}
 use Rattle.envelope.specs.declared.fields.Envelope.{Envelope}
+use Rattle.std.specs.Prelude as prelude
 use Rattle.envelope.specs.declared.fields.Header.{Header}
+use Rattle.envelope.specs.declared.writer.WriteFault.{WriteFault}
 use Rattle.envelope.specs.declared.fields.Integrity.TheVariants.{None}
 use Rattle.envelope.specs.declared.lateness.Lateness.TheVariants.{NoClock, Late, InTime}
 use Rattle.envelope.specs.declared.reader.Fault.TheVariants.{TooShort, WrongVersion, BadFlags}

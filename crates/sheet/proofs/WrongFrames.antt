@@ -17,6 +17,7 @@ use Rattle.frame.specs.Capturing.{MeasuresFirst}
 use Rattle.frame.specs.Refusal.{NumbersFrameRefusal}
 use Rattle.frame.specs.declared.unwrapper.Acknowledgment.{Acknowledgment}
 use Rattle.frame.specs.declared.unwrapper.DataMessage.{DataMessage}
+use Rattle.frame.specs.declared.refusal.Refusal.{Refusal as FrameRefusal}
 use Rattle.frame.specs.declared.refusal.Refusal.TheVariants.{TooShort, MessageRefused}
 use Rattle.frame.specs.declared.unwrapper.Unwrapped.TheVariants.{Data, Acknowledged, Refused}
 use Rattle.sheet.proofs.Apart.{apart}

@@ -28,6 +28,7 @@ use Rattle.golden.specs.Theorems.{opened_number}
 use Rattle.golden.specs.Walking.{Begins, Walks}
 use Rattle.golden.specs.declared.finder.Name.{Name}
 use Rattle.golden.specs.declared.refusal.Refusal.{Refusal}
+use Rattle.golden.specs.declared.stepper.Stored.{Stored}
 use Rattle.golden.specs.declared.refusal.Refusal.TheVariants.{NotAGoldenFile, NoRecord, BadLength, RecordRefused, NotFound}
 use Rattle.golden.proofs.MadeLaws.{checks, compared, compares, finds, retires}
 use Rattle.golden.proofs.RetiredLaws.{retired_twice}

@@ -18,10 +18,13 @@ use Rattle.envelope.specs.declared.reader.Fault.TheVariants.{TooShort, BadFlags,
 use Rattle.feed.specs.Feeding.{refused, FeedOutcome, ending}
 use Rattle.feed.specs.Places.{found_place}
 use Rattle.feed.specs.Told.{told_found, Takes, Ends}
+use Rattle.envelope.specs.declared.rewriter.RewriteFault.TheVariants.{Refused as RewriteRefused}
 use Rattle.feed.specs.declared.feeder.Ended.{Ended}
 use Rattle.feed.specs.declared.feeder.Feed.{Feed}
 use Rattle.feed.specs.declared.feeder.Taken.{Taken}
+use Rattle.feed.specs.declared.refusal.Refusal.{Refusal as FeedRefusal}
 use Rattle.feed.specs.declared.refusal.Refusal.TheVariants.{MessageRefused as FeedRefuses}
+use Rattle.feed.specs.declared.step.Message.{Message}
 use Rattle.feed.specs.declared.step.Standing.TheVariants.{Refused as Stands}
 use Rattle.frame.specs.Sizes.{unwrap_place, wrap_place}
 use Rattle.frame.specs.Unwrapping.{UnwrapAnswer, Unwraps}

@@ -28,6 +28,7 @@ use Rattle.golden.specs.Making.{made, making, record_of, Makes}
 use Rattle.golden.specs.Making as make
 use Rattle.golden.specs.Record.{message_room, stored_word, is_retired, stored_length, all_zero, bad_length, judging}
 use Rattle.envelope.specs.Refusals.{Refused, plainly, passing_on}
+use Rattle.golden.specs.declared.refusal.Refusal.{Refusal as GoldenRefusal}
 use Rattle.sheet.specs.Cases.{M, with_addresses}
 use Rattle.sheet.proofs.Apart.{apart, accepted_not_refused, refusal_number}
 use Rattle.sheet.proofs.Cases.{starred}
