@@ -2,9 +2,10 @@
 -- So a region splits into two addresses at one place at most, the one after its first zero.
 use Rattle.std.proofs.Common.{◌≡◌, ℕ, zero, suc, ◌+◌, ◌-◌, ◌<◌, ◌≤◌, Bool, true, false, cond, not, ◌&&◌, ◌||◌, eqb, leb, List, [], ◌∷◌, length, take, drop, sym, refl, ap, ◌∙◌, ⊎_elim, arith, length-drop, take-append-drop, length-take-le, take_all, eq-eqb, ne_eqb, eqb-true, le-leb, leb-true}
 use mathlib.Core.Bool.{or-true}
+use Rattle.std.specs.Bool.{then_some}
 use borrow.Author.Tests.{eqb-false, not-false}
 use Rattle.envelope.specs.Addresses.{ends_in_its_only_zero, is_address, splits_at, splits_up_to, two_addresses, first_zero, source_size, destination_size, region_of, bad_addresses}
-use Rattle.envelope.specs.Helpers.{sizes}
+use Rattle.envelope.specs.Helpers.{unless, sizes}
 use Rattle.envelope.specs.Layout.{header_size, routing_size, smallest_variable, addresses_place, largest_address}
 use Rattle.envelope.specs.declared.addresses.Sizes.{Sizes}
 use Rattle.envelope.proofs.BoolLaws.{both, either, is_false, same_test}
@@ -115,12 +116,29 @@ not_two region f = is_false (two_addresses region) (λ e. f (two_scanned region 
 
 -- ---- as the code meets them
 
+abbrev found_sizes : ℕ → ℕ → Sizes
+found_sizes a b = record { source = a; destination = b }
+
 -- the second scan is of the part after the first zero
 pub destination_is : (region : List ℕ) (a b : ℕ) → a ≡ source_size region
     → b ≡ first_zero (take (length region - (a + 1)) (drop (a + 1) region)) → b ≡ destination_size region
 unfolding destination_size
 destination_is region a b ea eb =
     rw (← ea) (rw (take_all (length region - (a + 1)) (drop (a + 1) region) (rw length-drop (omega arith))) at eb)
+
+-- two ends that are short enough are two addresses where they make up the region
+pub two_by_length : (region : List ℕ) (a b : ℕ) → a ≡ source_size region → a < largest_address
+    → b ≡ destination_size region → b < largest_address
+    → then_some (eqb (a + 1 + (b + 1)) (length region)) (found_sizes a b) ≡ unless (not (two_addresses region)) (sizes region)
+two_by_length region a b ea la eb lb = go (eqb (a + 1 + (b + 1)) (length region)) refl
+  where
+    go : (t : Bool) → eqb (a + 1 + (b + 1)) (length region) ≡ t → then_some t (found_sizes a b) ≡ unless (not (two_addresses region)) (sizes region)
+    go true e =
+        let w = eqb-true (a + 1 + (b + 1)) (length region) e in
+        rw (scanned_two region (record { source = omega arith; destination = omega arith; whole = omega arith }), ea, eb)
+    go false e =
+        let n = eqb-false (a + 1 + (b + 1)) (length region) e in
+        rw (not_two region (λ h. n (omega (arith, h.whole))))
 
 -- the part that is lent, from place 21 to the end of the variable header, is the region
 abbrev pub lent : List ℕ → ℕ → List ℕ

@@ -1,7 +1,7 @@
 -- Meanings of the private helpers' answers. Nothing that a public promise says is defined here.
 -- `unless b x` is nothing where the rule b is broken, and else x.
-use Rattle.std.specs.Prelude.{ℕ, ◌+◌, ◌<◌, ◌≤◌, Bool, true, false, List, ◌++◌, length, take, drop, Option, Some, None, Result, Ok, Err, ok_or}
-use Rattle.envelope.specs.Addresses.{source_size, destination_size}
+use Rattle.std.specs.Prelude.{◌≡◌, ℕ, ◌+◌, ◌<◌, ◌≤◌, Bool, true, false, List, ◌++◌, length, take, drop, Option, Some, None, Result, Ok, Err, ok_or}
+use Rattle.envelope.specs.Addresses.{first_zero, source_size, destination_size}
 use Rattle.envelope.specs.Fields.{AddressingFields, IntegrityFields, Refusal}
 use Rattle.envelope.specs.Heading.{HeadingAnswer, passed, refused}
 use Rattle.envelope.specs.Layout.{header_size, routing_size, largest_address, largest_body, field_size}
@@ -19,6 +19,10 @@ unless false x = Some x
 -- the refusal r where the rule b is broken, and else x
 abbrev pub unless_refused : {A R : Type 0} → Bool → R → A → Result A R
 unless_refused b r x = ok_or (unless b x) r
+
+-- an address of n bytes, which the first zero closes
+abbrev pub Closes : List ℕ → ℕ → Type 0
+Closes s n = (n ≡ first_zero s) × (n < largest_address) × (n < length s)
 
 abbrev pub sizes : List ℕ → Sizes
 sizes region = record { source = source_size region; destination = destination_size region }

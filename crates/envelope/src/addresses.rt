@@ -1,10 +1,10 @@
 // Rule 6: the two addresses of a variable header, found by one scan for their zeros.
-ghost use Rattle.std.specs.Prelude.{◌≡◌, ◌+◌, ◌≤◌, not, length, ◌≢◌};
+ghost use Rattle.std.specs.Prelude.{◌≡◌, ◌+◌, ◌≤◌, not, length, ◌≢◌, MatchOption};
 ghost use Rattle.envelope.specs.Addresses.{first_zero, two_addresses, bad_addresses};
 ghost use Rattle.envelope.specs.Layout.{header_size, field_size, smallest_variable, addresses_place};
 ghost use Rattle.envelope.specs.Fields.{refusal_by};
 ghost use Rattle.envelope.specs.Reading.{addressing_of};
-ghost use Rattle.envelope.specs.Helpers.{unless, unless_refused, told_found_addressing, sizes};
+ghost use Rattle.envelope.specs.Helpers.{Closes, unless, unless_refused, told_found_addressing, sizes};
 
 use crate::fields::{Addressing, Envelope, Part};
 use crate::numbers::two_at;
@@ -48,25 +48,20 @@ pub(crate) fn addressing_of(bytes: &[u8], v: usize) -> Result<Option<Addressing>
 fn sizes_of(region: &[u8]) -> Option<Sizes>
     ensures { result ≡ unless (not (two_addresses region.now)) (sizes region.now) }
 {
-    let source = first_zero(region);
-    if Envelope::LARGEST_ADDRESS <= source {
-        return None;
-    }
-    if region.len() <= source {
-        return None;
-    }
-    let rest = &region[source + 1..];
-    let destination = first_zero(rest);
-    if Envelope::LARGEST_ADDRESS <= destination {
-        return None;
-    }
-    if source + 1 + (destination + 1) != region.len() {
-        return None;
-    }
-    Some(Sizes {
+    let source = address_size(region)?;
+    let destination = address_size(&region[source + 1..])?;
+    (source + 1 + (destination + 1) == region.len()).then_some(Sizes {
         source,
         destination,
     })
+}
+
+// The size of the address that the first zero closes, without that zero. Nothing, where it is too long or there is no zero.
+fn address_size(bytes: &[u8]) -> Option<usize>
+    ensures { MatchOption result (¬ Closes bytes.now (first_zero bytes.now)) (λ n. Closes bytes.now n) }
+{
+    let size = first_zero(bytes);
+    (size < Envelope::LARGEST_ADDRESS && size < bytes.len()).then_some(size)
 }
 
 // How many bytes stand before the first zero: all, where there is none.

@@ -12,6 +12,7 @@ use crate::fields::{Envelope, Integrity, Kind};
 use crate::numbers::four_at;
 use crate::reader::{Fault, Refusal};
 
+#[tactic(auto, unfolding(crate::specs::IntegrityField::bad_integrity, crate::specs::Reading::integrity_of))]
 pub(crate) fn integrity_of(bytes: &[u8], kind: Kind, place: usize) -> Result<Integrity, Refusal>
     requires { (header_size ≤ place) × (place + field_size ≤ length bytes.now) }
     ensures { told_found_integrity result

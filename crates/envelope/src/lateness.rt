@@ -11,6 +11,7 @@ pub enum Lateness {
     InTime,
 }
 
+#[tactic(auto, unfolding(crate::specs::Lateness::lateness_of))]
 pub fn judge(envelope: Envelope, entry: u64, clock: u64) -> Lateness
     ensures { JudgesLateness envelope entry clock result }
 {

@@ -1,5 +1,6 @@
 // Big-endian numbers: from bytes by value, from a place of a slice, and back into bytes.
-ghost use Rattle.std.specs.Prelude.{◌≡◌, ◌+◌, ◌<◌, ◌≤◌, length};
+// One name for each width: the library has a type for two and for four bytes, and none for three.
+ghost use Rattle.std.specs.Prelude.{◌≡◌, ℕ, ◌+◌, ◌<◌, ◌≤◌, length, slice_index};
 ghost use Rattle.envelope.specs.Numbers.{TwoBytes, ThreeBytes, FourBytes, two_at, three_at, four_at, in_three, TwoDigits, FourDigits};
 
 pub fn two_bytes(a: u8, b: u8) -> u16
@@ -41,12 +42,22 @@ pub fn four_digits(number: u32) -> [u8; 4]
     number.to_be_bytes()
 }
 
+// The bytes from a place, as many as their number has.
+fn at<const N: usize>(bytes: &[u8], place: usize) -> [u8; N]
+    requires { place + N ≤ length bytes.now }
+    ensures { (k : ℕ) → k < N → slice_index result k ≡ slice_index bytes.now (place + k) }
+{
+    let mut part = [0; N];
+    part.copy_from_slice(&bytes[place..place + N]);
+    part
+}
+
 #[tactic(auto, unfolding(crate::specs::Numbers::two_at))]
 pub(crate) fn two_at(bytes: &[u8], place: usize) -> u16
     requires { place + 2 ≤ length bytes.now }
     ensures { result ≡ two_at bytes.now place }
 {
-    two_bytes(bytes[place], bytes[place + 1])
+    u16::from_be_bytes(at(bytes, place))
 }
 
 #[tactic(auto, unfolding(crate::specs::Numbers::three_at))]
@@ -54,7 +65,8 @@ pub(crate) fn three_at(bytes: &[u8], place: usize) -> u32
     requires { place + 3 ≤ length bytes.now }
     ensures { result ≡ three_at bytes.now place }
 {
-    three_bytes(bytes[place], bytes[place + 1], bytes[place + 2])
+    let [a, b, c] = at::<3>(bytes, place);
+    u32::from_be_bytes([0, a, b, c])
 }
 
 #[tactic(auto, unfolding(crate::specs::Numbers::four_at))]
@@ -62,17 +74,5 @@ pub(crate) fn four_at(bytes: &[u8], place: usize) -> u32
     requires { place + 4 ≤ length bytes.now }
     ensures { result ≡ four_at bytes.now place }
 {
-    four_bytes(
-        bytes[place],
-        bytes[place + 1],
-        bytes[place + 2],
-        bytes[place + 3],
-    )
-}
-
-// A byte with room to be multiplied.
-pub(crate) fn wide(byte: u8) -> u32
-    ensures { (result ≡ byte) × (result < 256) }
-{
-    byte as u32
+    u32::from_be_bytes(at(bytes, place))
 }

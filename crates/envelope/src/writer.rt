@@ -8,7 +8,6 @@ ghost use Rattle.envelope.specs.Message.{header_bytes, variable_of, before_field
 ghost use Rattle.envelope.specs.Told.{told_header};
 ghost use Rattle.envelope.specs.Writing.{bad_end, bad_ends, stray_integrity, writing, answer_to_writing, told_given, told_writing, NumbersWriteFault, Writes};
 
-use crate::addresses::first_zero;
 use crate::fields::{Envelope, Header, Kind};
 use crate::flags;
 use crate::numbers::{four_digits, three_digits, two_digits};
@@ -59,6 +58,7 @@ pub fn write(given: Given<'_>, buffer: &mut [u8]) -> Result<usize, WriteFault>
 
 impl Given<'_> {
     // The answer, with nothing written.
+    #[tactic(auto, unfolding(crate::specs::Writing::writing))]
     fn judge(self, room: usize) -> Result<usize, WriteFault>
         ensures { told_writing result ≡ answer_to_writing (writing (told_given self.entry) room) }
     {
@@ -133,9 +133,8 @@ impl Given<'_> {
         match self.routing {
             None => place,
             Some(routing) => {
-                let ttl = two_digits(routing.ttl);
-                let qos = two_digits(routing.qos);
-                let source_place = put(buffer, place, &[ttl[0], ttl[1], qos[0], qos[1]]);
+                let qos_place = put(buffer, place, &two_digits(routing.ttl));
+                let source_place = put(buffer, qos_place, &two_digits(routing.qos));
                 let destination_place = put_end(buffer, source_place, self.source);
                 put_end(buffer, destination_place, self.destination)
             }
@@ -143,13 +142,15 @@ impl Given<'_> {
     }
 }
 
+#[tactic(auto, unfolding(crate::specs::Writing::bad_end))]
 fn bad_end(end: &[u8]) -> bool
     ensures { result ≡ bad_end end.now }
 {
-    Envelope::LARGEST_ADDRESS <= end.len() || first_zero(end) < end.len()
+    Envelope::LARGEST_ADDRESS <= end.len() || end.contains(&0)
 }
 
 // Rule 14.
+#[tactic(auto, unfolding(crate::specs::Writing::stray_integrity))]
 fn stray_integrity(application: u32, kind: Kind) -> bool
     ensures { result ≡ stray_integrity application (told_kind kind) }
 {
@@ -207,6 +208,7 @@ fn header_digits(header: Header, v: usize, d: usize) -> [u8; Envelope::HEADER_SI
     ]
 }
 
+#[tactic(auto, unfolding(crate::specs::Message::field_number))]
 fn field_number(kind: Kind, application: u32, before: &[u8]) -> u32
     ensures { result ≡ field_number (told_kind kind) application before.now }
 {

@@ -1,33 +1,23 @@
--- `addresses::sizes_of` scans for two zeros: each refusal is a scan that fails, and what is left is one that holds.
-use Rattle.std.proofs.Common.{arith}
-use Rattle.envelope.proofs.AddressLaws.{scanned_two, not_two, destination_is}
+-- `addresses::sizes_of` looks for two addresses, each closed by the first zero that is left: each refusal is a scan that fails.
+use Rattle.std.proofs.Common.{refl, ◌∙◌, arith}
+use Rattle.envelope.proofs.AddressLaws.{not_two, destination_is, two_by_length}
 use Rattle.envelope.proofs.addresses.sizes_of.Goals as goal
 
-pub returns-then-source-ge-LARGEST_ADDRESS : goal.returns-then-source-ge-LARGEST_ADDRESS
-returns-then-source-ge-LARGEST_ADDRESS c =
+pub returns-in_err-source : goal.returns-in_err-source
+returns-in_err-source c =
     let t = c.args.region.now in
-    rw (not_two t (λ h. omega (arith, h.source)))
+    rw (c.from_residual.ensures, not_two t (λ h. c.in_err-source.ensures (refl, h.source, omega (arith, h.whole))))
 
-pub returns-then-region-source : goal.returns-then-region-source
-returns-then-region-source c =
+pub returns-in_err-destination : goal.returns-in_err-destination
+returns-in_err-destination c =
     let t = c.args.region.now in
-    rw (not_two t (λ h. omega (arith, h.whole)))
-
-pub returns-then-destination-ge-LARGEST_ADDRESS : goal.returns-then-destination-ge-LARGEST_ADDRESS
-returns-then-destination-ge-LARGEST_ADDRESS c =
-    let t = c.args.region.now in
-    let d = destination_is t _ _ c.first_zero-source.ensures c.first_zero-destination.ensures in
-    rw (not_two t (λ h. omega (arith, h.destination)))
-
-pub returns-then-source-destination : goal.returns-then-source-destination
-returns-then-source-destination c =
-    let t = c.args.region.now in
-    let d = destination_is t _ _ c.first_zero-source.ensures c.first_zero-destination.ensures in
-    rw (not_two t (λ h. omega (arith, h.whole)))
+    let source = c.in_ok-source.ensures in
+    let d = destination_is t _ _ source.0 refl in
+    rw (c.from_residual-in_err-destination.ensures, not_two t (λ h. c.in_err-destination.ensures (refl, omega (arith, h.destination), omega (arith, h.whole))))
 
 pub returns : goal.returns
 returns c =
     let t = c.args.region.now in
-    let a = c.first_zero-source.ensures in
-    let d = destination_is t _ _ a c.first_zero-destination.ensures in
-    rw (scanned_two t (record { source = omega arith; destination = omega arith; whole = omega arith }), a, d)
+    let source = c.in_ok-source.ensures in
+    let destination = c.in_ok-destination.ensures in
+    c.then_some.ensures ∙ two_by_length t _ _ source.0 source.1 (destination_is t _ _ source.0 destination.0) destination.1
