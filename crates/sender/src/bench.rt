@@ -16,6 +16,7 @@ pub struct Flight {
 }
 
 // What stands beside the places. Those that wait are in the first `count` of them, oldest first; at most one is in flight.
+// It has no invariant and does not hold the places: C lends the two apart, and `AnswersForC` answers for any numbers in them.
 #[derive(Clone, Copy)]
 pub struct Bench {
     pub resends: u8,

@@ -66,8 +66,8 @@ fn by_words(bytes: &[u8]) -> Stage<'_>
     Stage { rest, pending }
 }
 
-// Four bytes at a time, while there are four. No function is generic over the three loops: the library reads eight bytes and four by two
-// functions of its own, only words need room behind them, and a trait for that is longer than the loops.
+// Four bytes at a time, while there are four.
+// The three loops stay three: the library reads eight bytes, four and one by functions of their types, and a trait over them is longer.
 fn by_halves(bytes: &[u8], mut pending: Pending) -> Stage<'_>
     ensures { leads_to result.rest.now result.pending ≡ leads_to bytes.now pending }
 {
