@@ -16,16 +16,16 @@ pub fn split(qos: u16) -> Qos
     ensures { Splits qos result }
 {
     Qos {
-        service_request: (qos / 8192 % 8) as u8,
-        special_handling: (qos / 512 % 16) as u8,
-        network_preference: (qos / 64 % 8) as u8,
-        priority: (qos / 8 % 8) as u8,
-        class: (qos % 8) as u8,
+        service_request: (qos >> 13) as u8,
+        special_handling: (qos >> 9 & 15) as u8,
+        network_preference: (qos >> 6 & 7) as u8,
+        priority: (qos >> 3 & 7) as u8,
+        class: (qos & 7) as u8,
     }
 }
 
 // Nothing where a number does not fit its bits.
-#[tactic(auto, unfolding(crate::specs::Qos::joining))]
+#[tactic(auto, using(crate::proofs::QosLaws::in_their_bits), unfolding(crate::specs::Qos::joining))]
 pub fn join(qos: Qos) -> Option<u16>
     ensures { Joins qos result }
 {
@@ -36,11 +36,11 @@ pub fn join(qos: Qos) -> Option<u16>
         && qos.class < 8
     {
         return Some(
-            u16::from(qos.service_request) * 8192
-                + u16::from(qos.special_handling) * 512
-                + u16::from(qos.network_preference) * 64
-                + u16::from(qos.priority) * 8
-                + u16::from(qos.class),
+            u16::from(qos.service_request) << 13
+                | u16::from(qos.special_handling) << 9
+                | u16::from(qos.network_preference) << 6
+                | u16::from(qos.priority) << 3
+                | u16::from(qos.class),
         );
     }
     None
