@@ -1,12 +1,14 @@
 -- What a heading that passed says, and that heading and announced length look at the first 17 bytes alone.
 -- The layers above cite these laws and not the definitions.
-use Rattle.std.proofs.Common.{◌≡◌, ℕ, ◌+◌, ◌/◌, ◌<◌, ◌≤◌, Bool, true, false, not, ◌&&◌, eqb, ltb, leb, List, take, refl, arith, get_or-take, ltb-false, le-leb}
+use Rattle.std.proofs.Common.{◌≡◌, ℕ, ◌+◌, ◌/◌, ◌<◌, ◌≤◌, Bool, true, false, not, ◌&&◌, eqb, ltb, leb, List, take, refl, ap, ◌∙◌, arith, get_or-take, ltb-false, le-leb}
+use Rattle.std.specs.Array.{IsFirstChunk}
 use borrow.Author.Tests.{eqb-false}
 use Rattle.envelope.specs.Fields.{Refusal}
 use Rattle.envelope.specs.Flags.{kind_of, kind_unassigned, bad_flags}
 use Rattle.envelope.specs.Heading.{flags_of, variable_size, data_length, announced, wrong_version, bad_variable_size, passed, refused, heading}
-use Rattle.envelope.specs.Layout.{data_length_place, variable_size_place, header_size, field_size, smallest_variable, largest_variable}
-use Rattle.envelope.specs.Numbers.{byte_at, three_at}
+use Rattle.envelope.specs.Layout.{flags_place, data_length_place, variable_size_place, header_size, field_size, smallest_variable, largest_variable}
+use Rattle.envelope.specs.Numbers.{byte_at, two_at, three_at, four_at}
+use Rattle.envelope.specs.Reading.{header_of}
 use Rattle.envelope.proofs.BoolLaws.{neither, true_is_not_false, past}
 
 pub announced_is : (s : List ℕ) → announced s ≡ header_size + variable_size s + data_length s + field_size
@@ -76,3 +78,26 @@ pub heading_by_heading : (s : List ℕ) → heading (take header_size s) ≡ hea
 unfolding heading
 heading_by_heading s =
     rw (byte_of_front s header_size 0 (omega arith), byte_of_front s header_size 4 (omega arith), byte_of_front s header_size 16 (omega arith))
+
+header_by_heading : (s : List ℕ) → header_of (take header_size s) ≡ header_of s
+unfolding header_of two_at four_at
+header_by_heading s =
+    rw (byte_of_front s header_size 1 (omega arith), byte_of_front s header_size 2 (omega arith), byte_of_front s header_size 3 (omega arith), byte_of_front s header_size 4 (omega arith), byte_of_front s header_size 8 (omega arith), byte_of_front s header_size 9 (omega arith), byte_of_front s header_size 10 (omega arith), byte_of_front s header_size 11 (omega arith), byte_of_front s header_size 12 (omega arith), byte_of_front s header_size 13 (omega arith), byte_of_front s header_size 14 (omega arith), byte_of_front s header_size 15 (omega arith))
+
+-- a header that was cut off says what the whole message says
+pub record Header (s h : List ℕ) : Type 0 where
+  pub heading : heading h ≡ heading s
+  pub announced : announced h ≡ announced s
+  pub size : variable_size h ≡ variable_size s
+  pub flags : flags_of h ≡ flags_of s
+  pub fields : header_of h ≡ header_of s
+
+pub header_says : (s h : List ℕ) → IsFirstChunk s h header_size → Header s h
+header_says s h c =
+    record {
+      heading = ap heading c.same ∙ heading_by_heading s;
+      announced = ap announced c.same ∙ announced_by_heading s;
+      size = ap variable_size c.same ∙ byte_of_front s header_size variable_size_place (omega arith);
+      flags = ap flags_of c.same ∙ byte_of_front s header_size flags_place (omega arith);
+      fields = ap header_of c.same ∙ header_by_heading s;
+    }

@@ -53,6 +53,10 @@ good s f e =
       fields = same_fields (fields_of s) f p7.1;
     }
 
+pub reading_past_heading : (s : List ℕ) → least_size ≤ length s → heading s ≡ passed → reading s ≡ reading_whole s
+unfolding reading
+reading_past_heading s l h = rw (le-ltb (length s) least_size l, h)
+
 pub accepts : (s : List ℕ) → least_size ≤ length s → Passed s → announced s ≡ length s → bad_addresses s (variable_size s) ≡ false
     → bad_integrity s (kind_of (flags_of s)) (field_place s) ≡ false → reading s ≡ accepted (fields_of s)
 unfolding reading reading_whole

@@ -1,9 +1,8 @@
 // Reading: any bytes in, the envelope out, or the first rule that they break.
-ghost use Rattle.std.specs.Prelude.{◌≡◌, ◌≤◌, length};
-ghost use Rattle.envelope.specs.Heading.{announced, bad_variable_size, heading, passed};
-ghost use Rattle.envelope.specs.Layout.{header_size, least_size};
-ghost use Rattle.envelope.specs.Reading.{header_of, reading_whole};
-ghost use Rattle.envelope.specs.Told.{told_header, told, NumbersFault, Reads};
+ghost use Rattle.std.specs.Prelude.{◌≡◌};
+ghost use Rattle.envelope.specs.Heading.{announced, bad_variable_size, heading};
+ghost use Rattle.envelope.specs.Reading.{header_of};
+ghost use Rattle.envelope.specs.Told.{told_header, NumbersFault, Reads};
 ghost use Rattle.envelope.specs.Helpers.{told_heading};
 
 use crate::addresses::addressing_of;
@@ -39,7 +38,7 @@ pub struct Refusal {
     pub place: usize,
 }
 
-#[tactic(auto, unfolding(crate::specs::Reading::reading))]
+// The rules in their order, and what the bytes say where none is broken.
 pub fn read(bytes: &[u8]) -> Result<Envelope, Refusal>
     ensures { Reads bytes.now result }
 {
@@ -49,29 +48,45 @@ pub fn read(bytes: &[u8]) -> Result<Envelope, Refusal>
             place: bytes.len(),
         });
     }
-    judge_heading(bytes)?;
-    read_whole(bytes)
+    let header = bytes.first_chunk().unwrap();
+    judge_heading(header)?;
+    if announced_length(header) != bytes.len() {
+        return Err(Refusal {
+            fault: Fault::WrongLength,
+            place: Envelope::DATA_LENGTH_PLACE,
+        });
+    }
+    let v = usize::from(header[Envelope::VARIABLE_SIZE_PLACE]);
+    let addressing = addressing_of(bytes, v)?;
+    let place = bytes.len() - Envelope::FIELD_SIZE;
+    let kind = flags::kind(header[Envelope::FLAGS_PLACE]);
+    let integrity = integrity_of(bytes, kind, place)?;
+    let body_place = Envelope::HEADER_SIZE + v;
+    let body = Part {
+        place: body_place,
+        size: place - body_place,
+    };
+    Ok(Envelope::new(header_of(header), addressing, body, integrity))
 }
 
 // Rules 2 to 4, on the header alone.
 #[tactic(auto, unfolding(crate::specs::Heading::heading))]
-pub(crate) fn judge_heading(bytes: &[u8]) -> Result<(), Refusal>
-    requires { header_size ≤ length bytes.now }
-    ensures { told_heading result ≡ heading bytes.now }
+pub(crate) fn judge_heading(header: &[u8; Envelope::HEADER_SIZE]) -> Result<(), Refusal>
+    ensures { told_heading result ≡ heading header.now }
 {
-    if bytes[Envelope::VERSION_PLACE] != Envelope::HEADER_VERSION {
+    if header[Envelope::VERSION_PLACE] != Envelope::HEADER_VERSION {
         return Err(Refusal {
             fault: Fault::WrongVersion,
             place: Envelope::VERSION_PLACE,
         });
     }
-    if flags::bad_flags(bytes[Envelope::FLAGS_PLACE]) {
+    if flags::bad_flags(header[Envelope::FLAGS_PLACE]) {
         return Err(Refusal {
             fault: Fault::BadFlags,
             place: Envelope::FLAGS_PLACE,
         });
     }
-    if bad_variable_size(bytes[Envelope::VARIABLE_SIZE_PLACE]) {
+    if bad_variable_size(header[Envelope::VARIABLE_SIZE_PLACE]) {
         return Err(Refusal {
             fault: Fault::BadVariableSize,
             place: Envelope::VARIABLE_SIZE_PLACE,
@@ -80,51 +95,26 @@ pub(crate) fn judge_heading(bytes: &[u8]) -> Result<(), Refusal>
     Ok(())
 }
 
-// Rules 5 to 7, on the whole message.
-fn read_whole(bytes: &[u8]) -> Result<Envelope, Refusal>
-    requires { (least_size ≤ length bytes.now) × (heading bytes.now ≡ passed) }
-    ensures { told result ≡ reading_whole bytes.now }
-{
-    if announced_length(bytes) != bytes.len() {
-        return Err(Refusal {
-            fault: Fault::WrongLength,
-            place: Envelope::DATA_LENGTH_PLACE,
-        });
-    }
-    let v = usize::from(bytes[Envelope::VARIABLE_SIZE_PLACE]);
-    let addressing = addressing_of(bytes, v)?;
-    let place = bytes.len() - Envelope::FIELD_SIZE;
-    let integrity = integrity_of(bytes, flags::kind(bytes[Envelope::FLAGS_PLACE]), place)?;
-    let body_place = Envelope::HEADER_SIZE + v;
-    let body = Part {
-        place: body_place,
-        size: place - body_place,
-    };
-    Ok(Envelope::new(header_of(bytes), addressing, body, integrity))
-}
-
 // 17 + V + D + 4
 #[tactic(auto, unfolding(crate::specs::Heading::announced))]
-pub(crate) fn announced_length(bytes: &[u8]) -> usize
-    requires { header_size ≤ length bytes.now }
-    ensures { result ≡ announced bytes.now }
+pub(crate) fn announced_length(header: &[u8; Envelope::HEADER_SIZE]) -> usize
+    ensures { result ≡ announced header.now }
 {
-    let v = usize::from(bytes[Envelope::VARIABLE_SIZE_PLACE]);
-    let d = three_at(bytes, Envelope::DATA_LENGTH_PLACE) as usize;
+    let v = usize::from(header[Envelope::VARIABLE_SIZE_PLACE]);
+    let d = three_at(header, Envelope::DATA_LENGTH_PLACE) as usize;
     Envelope::HEADER_SIZE + v + d + Envelope::FIELD_SIZE
 }
 
 #[tactic(auto, unfolding(crate::specs::Reading::header_of))]
-fn header_of(bytes: &[u8]) -> Header
-    requires { header_size ≤ length bytes.now }
-    ensures { told_header result ≡ header_of bytes.now }
+fn header_of(header: &[u8; Envelope::HEADER_SIZE]) -> Header
+    ensures { told_header result ≡ header_of header.now }
 {
     Header {
-        message_type: two_at(bytes, Envelope::TYPE_PLACE),
-        version: bytes[Envelope::MESSAGE_VERSION_PLACE],
-        flags: bytes[Envelope::FLAGS_PLACE],
-        number: four_at(bytes, Envelope::NUMBER_PLACE),
-        time: four_at(bytes, Envelope::TIME_PLACE),
+        message_type: two_at(header, Envelope::TYPE_PLACE),
+        version: header[Envelope::MESSAGE_VERSION_PLACE],
+        flags: header[Envelope::FLAGS_PLACE],
+        number: four_at(header, Envelope::NUMBER_PLACE),
+        time: four_at(header, Envelope::TIME_PLACE),
     }
 }
 
