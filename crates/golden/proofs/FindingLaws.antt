@@ -5,7 +5,7 @@ use mathlib.Core.List.{List}
 use mathlib.Core.Path.{◌≡◌, ap, sym, ◌∙◌}
 use Prim.Native.Nat.{ℕ, suc, ◌+◌, ◌-◌, ◌≤◌, ◌<◌}
 use native.Mathlib.Omega.{arith}
-use Rattle.std.specs.Prelude.{Result, Ok, Err, MatchResult, IsErrAnd}
+use Rattle.std.specs.Prelude.{Result, Ok, Err}
 use Rattle.envelope.specs.Fields.{Fields}
 use Rattle.envelope.specs.Told.{told_envelope}
 use Rattle.envelope.specs.Refusals.{Refused, plainly}
@@ -46,24 +46,13 @@ pub judged_good : (s : List ℕ) (n l : ℕ) (retired : Bool) (f : Fields) → h
 unfolding opening judged_at
 judged_good s n l retired f e = as_holding (stored_length (record_at s n)) l (judging (record_at s n)) retired f e
 
--- an opened record, or its refusal with what goes with it
-pub record OpenedBad {E : Type 0} (make : Refusal → E) (s : List ℕ) (n : ℕ) (d : E) : Type 0 where
-  pub refusal : Refusal
-  pub given : d ≡ make refusal
-  pub judged : judged_at s n ≡ bad (told_golden_refusal refusal)
+pub opened_good : (s : List ℕ) (n : ℕ) (g : GoodRecord) {o : Result GoodRecord Refusal} → o ≡ Ok g → told_opening o ≡ opening (record_at s n)
+    → judged_at s n ≡ good g.retired (told_envelope g.envelope)
+opened_good s n g q e = (judged_good s n _ _ _ (ap told_opening (sym q) ∙ e)).0
 
-module _ {E : Type 0} (make : Refusal → E) (gives : Refusal → E → Type 0) (one : (r : Refusal) (d : E) → gives r d → d ≡ make r) (s : List ℕ) (n : ℕ) where
-  pub opened_good : (o : Result GoodRecord Refusal) (m : Result GoodRecord E) → told_opening o ≡ opening (record_at s n)
-      → MatchResult o (λ g. m ≡ Ok g) (λ r. IsErrAnd m (gives r)) → (g : GoodRecord) → m ≡ Ok g → judged_at s n ≡ good g.retired (told_envelope g.envelope)
-  opened_good (Ok x) m e h g q =
-      let same : x ≡ g = cc in
-      (judged_good s n _ _ _ e).0 ∙ ap (λ (x : GoodRecord). good x.retired (told_envelope x.envelope)) same
-  opened_good (Err r) m e h g q = absurd (rw q at h)
-
-  pub opened_bad : (o : Result GoodRecord Refusal) (m : Result GoodRecord E) → told_opening o ≡ opening (record_at s n)
-      → MatchResult o (λ g. m ≡ Ok g) (λ r. IsErrAnd m (gives r)) → (d : E) → m ≡ Err d → OpenedBad make s n d
-  opened_bad (Ok x) m e h d q = absurd (let z : ◌≡◌ {A = ℕ} 0 1 = cc in omega arith)
-  opened_bad (Err r) m e h d q = record { refusal = r; given = one r d (rw q at h); judged = judged_bad s n _ e }
+pub opened_bad : (s : List ℕ) (n : ℕ) (r : Refusal) {o : Result GoodRecord Refusal} → o ≡ Err r → told_opening o ≡ opening (record_at s n)
+    → judged_at s n ≡ bad (told_golden_refusal r)
+opened_bad s n r q e = judged_bad s n _ (ap told_opening (sym q) ∙ e)
 
 -- ---- check
 

@@ -1,5 +1,6 @@
 pub mod RecordLaws
 pub mod FileLaws
+pub mod MappedLaws
 pub mod NameLaws
 pub mod PairingLaws
 pub mod BucketLaws

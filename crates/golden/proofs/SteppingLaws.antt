@@ -3,8 +3,7 @@
 use mathlib.Core.Bool.{Bool, true, false, cond, not, ◌&&◌}
 use mathlib.Core.List.{List}
 use mathlib.Core.Path.{◌≡◌, refl, ap, sym, ◌∙◌}
-use Prim.Native.Nat.{ℕ, ◌+◌, ◌-◌, ◌*◌, ◌≤◌, ◌<◌}
-use native.Mathlib.Nat.{add-sub_cancel_left}
+use Prim.Native.Nat.{ℕ, ◌+◌, ◌*◌, ◌≤◌, ◌<◌}
 use native.Mathlib.Omega.{arith}
 use borrow.Author.Tests.{lt-leb, leb-false, not-true}
 use lib.ListN.{take, drop}
@@ -65,15 +64,13 @@ stored_nowhere f n e = by (bad_file f) (not_there f n) e
     by false true e = refl
     by false false e = absurd (true_is_not_false refl e)
 
--- where its message lies: the part of 512 bytes that is lent is the record
-pub stored_there : (f : List ℕ) (n : ℕ) → (not (bad_file f) && not (not_there f n)) ≡ true → (l : ℕ)
-    → l ≡ stored_length (take ((n * record_size + record_size) - n * record_size) (drop (n * record_size) f))
+-- where its message lies
+pub stored_there : (f : List ℕ) (n : ℕ) → (not (bad_file f) && not (not_there f n)) ≡ true → (l : ℕ) → l ≡ stored_length (record_at f n)
     → record { place = n * record_size + head_size; size = l } ≡ stored_message f n
 unfolding stored_message
 stored_there f n e l q =
     let t = there f n e in
-    let stored : l ≡ stored_length (record_at f n) = q ∙ ap (λ (k : ℕ). stored_length (take k (drop (n * record_size) f))) (add-sub_cancel_left (n * record_size) record_size) in
-    rw (t.whole, lt-leb _ _ t.within) (λ i. record { place = n * record_size + head_size; size = stored i })
+    rw (t.whole, lt-leb _ _ t.within) (λ i. record { place = n * record_size + head_size; size = q i })
 
 -- ---- back from the answer of a step
 

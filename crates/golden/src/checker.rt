@@ -2,12 +2,12 @@
 ghost use Rattle.std.specs.Prelude.{false, ◌≡◌, ◌≤◌, ◌<◌, length};
 ghost use Rattle.envelope.specs.Told.{told_envelope};
 ghost use Rattle.golden.specs.Checking.{Checks};
-ghost use Rattle.golden.specs.File.{count_of, record_at};
+ghost use Rattle.golden.specs.File.{count_of};
 ghost use Rattle.golden.specs.Finding.{name_of, told_name};
 ghost use Rattle.golden.specs.Helpers.{written_name, is_written, written_before, repeats_by, buckets, bucket_of};
 ghost use Rattle.golden.specs.Record.{record_size};
 
-use crate::file::{count, open_at};
+use crate::file::{count, open_at, record_at};
 use crate::finder::Name;
 use crate::record::{GoodRecord, Record, is_retired};
 use crate::refusal::{Refusal, RefusedAt};
@@ -53,16 +53,7 @@ fn name_taken(file: &[u8], name: Name, end: usize, used: bool) -> bool
     requires { (end ≤ count_of file.now) × (used ≡ false → written_before file.now (told_name name) end ≡ false) }
     ensures { result ≡ written_before file.now (told_name name) end }
 {
-    used && (0..end).any(|earlier| is_written_at(file, earlier, name))
-}
-
-fn is_written_at(file: &[u8], n: usize, name: Name) -> bool
-    requires { n < count_of file.now }
-    ensures { result ≡ is_written (told_name name) (record_at file.now n) }
-{
-    let start = n * Record::SIZE;
-    let end = start + Record::SIZE;
-    is_written(&file[start..end], name)
+    used && (0..end).any(|earlier| is_written(record_at(file, earlier), name))
 }
 
 fn is_written(bytes: &[u8], name: Name) -> bool

@@ -6,7 +6,7 @@ ghost use Rattle.golden.specs.Positions.{noted};
 use crate::positions::note;
 use crate::refusal::Refusal;
 use crate::stepper::answer_at;
-use envelope::{Reading, read};
+use envelope::read;
 
 // In how many places the two differ, 0 where they are the same.
 pub fn compare(file: &[u8], n: usize, radio: &[u8], list: &mut [u32]) -> Result<usize, Refusal>
@@ -16,10 +16,8 @@ pub fn compare(file: &[u8], n: usize, radio: &[u8], list: &mut [u32]) -> Result<
     if stored.retired {
         return Err(Refusal::RecordRetired);
     }
-    match read(radio) {
-        Reading::Refused(refusal) => Err(Refusal::RadioRefused(refusal)),
-        Reading::Accepted(_) => Ok(list_positions(stored.part.slice(file), radio, list)),
-    }
+    read(radio).map_err(Refusal::RadioRefused)?;
+    Ok(list_positions(stored.part.slice(file), radio, list))
 }
 
 // Puts the differing positions into the list, as far as it has room, and answers how many there are.

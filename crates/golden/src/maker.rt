@@ -3,7 +3,7 @@ ghost use Rattle.golden.specs.Making.{Makes};
 
 use crate::record::Record;
 use crate::refusal::Refusal;
-use envelope::{Reading, read};
+use envelope::read;
 
 pub fn make(message: &[u8], buffer: &mut [u8]) -> Result<(), Refusal>
     ensures { Makes message.now buffer.old result buffer.new }
@@ -11,9 +11,7 @@ pub fn make(message: &[u8], buffer: &mut [u8]) -> Result<(), Refusal>
     if Record::MESSAGE_ROOM < message.len() {
         return Err(Refusal::TooLong);
     }
-    if let Reading::Refused(refusal) = read(message) {
-        return Err(Refusal::MessageRefused(refusal));
-    }
+    read(message).map_err(Refusal::MessageRefused)?;
     if buffer.len() != Record::SIZE {
         return Err(Refusal::WrongBuffer);
     }

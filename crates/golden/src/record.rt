@@ -6,7 +6,7 @@ ghost use Rattle.golden.specs.Record.{record_size, message_room, stored_word, is
 
 use crate::refusal::Refusal;
 use envelope::numbers::{two_bytes, two_digits};
-use envelope::{Envelope, Reading, read};
+use envelope::{Envelope, read};
 
 #[derive(Clone, Copy)]
 pub struct Record {
@@ -68,14 +68,12 @@ pub(crate) fn open(bytes: &[u8]) -> Result<GoodRecord, Refusal>
     if !all_zero(&bytes[end..]) {
         return Err(Refusal::NotClear);
     }
-    match read(&bytes[Record::HEAD_SIZE..end]) {
-        Reading::Accepted(envelope) => Ok(GoodRecord {
-            size,
-            retired: is_retired(bytes),
-            envelope,
-        }),
-        Reading::Refused(refusal) => Err(Refusal::RecordRefused(refusal)),
-    }
+    let envelope = read(&bytes[Record::HEAD_SIZE..end]).map_err(Refusal::RecordRefused)?;
+    Ok(GoodRecord {
+        size,
+        retired: is_retired(bytes),
+        envelope,
+    })
 }
 
 pub(crate) fn stored_length(bytes: &[u8]) -> usize

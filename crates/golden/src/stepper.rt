@@ -2,7 +2,7 @@
 ghost use Rattle.std.specs.Prelude.{◌≡◌};
 ghost use Rattle.golden.specs.Stepping.{step_at, next_after, told_reached, Steps, Stores};
 
-use crate::file::{count, has_record, open_at};
+use crate::file::{count, has_record, open_at, record_at};
 use crate::record::{Record, stored_length};
 use crate::refusal::Refusal;
 use envelope::Part;
@@ -59,11 +59,8 @@ pub fn stored_message(file: &[u8], n: usize) -> Part
     if !has_record(file, n) {
         return Part { place: 0, size: 0 };
     }
-    let start = n * Record::SIZE;
-    let end = start + Record::SIZE;
-    let size = stored_length(&file[start..end]);
     Part {
-        place: start + Record::HEAD_SIZE,
-        size,
+        place: n * Record::SIZE + Record::HEAD_SIZE,
+        size: stored_length(record_at(file, n)),
     }
 }

@@ -9,6 +9,7 @@ use Rattle.std.proofs.lemmas.Result.{err_from_is_err_and}
 use Rattle.envelope.specs.Told.{told_envelope}
 use Rattle.golden.proofs.BucketLaws.{none_used, used_on}
 use Rattle.golden.proofs.FileLaws.{counted_so, one_more}
+use Rattle.golden.proofs.MappedLaws.{kept_ok, made_err}
 use Rattle.golden.proofs.FindingLaws.{opened_good, opened_bad, check_uncounted, check_all, check_on, check_end, repeats_by_bytes}
 use Rattle.golden.proofs.NameLaws.{name_is_written}
 use Rattle.golden.specs.Checking.{CheckAnswer, counted, repeats, check_from, checking}
@@ -17,7 +18,6 @@ use Rattle.golden.specs.Finding.{name_of}
 use Rattle.golden.specs.Helpers.{written_name, bucket_of}
 use Rattle.golden.specs.Record.{good}
 use Rattle.golden.specs.Theorems.{GoodAt}
-use Rattle.golden.specs.declared.refusal.Refusal.{Refusal}
 use Rattle.golden.proofs.checker.check.Goals as goal
 use Rattle.golden.proofs.checker.check.Goals.{In_ok-count, In_ok-good, After-bucket_of-bucket, After-is_repeated}
 
@@ -29,7 +29,7 @@ all_give c x e =
 
 -- the record at hand is good
 good_here : (c : In_ok-good) → judged_at c.args.file.now c.loop-n.n-counter ≡ good c.in_ok-good.good.retired (told_envelope c.in_ok-good.good.envelope)
-good_here c = opened_good (λ (r : Refusal). record { «record» = c.loop-n.n-counter; refusal = r }) _ (λ r d p. search rules) _ _ _ _ c.open_at.ensures c.map_err.ensures.cases _ c.in_ok-good.was
+good_here c = opened_good _ _ _ (kept_ok _ _ _ c.map_err.ensures.cases _ c.in_ok-good.was) c.open_at.ensures
 
 pub returns-in_err-count : goal.returns-in_err-count
 returns-in_err-count c =
@@ -42,9 +42,10 @@ open_at-requires c = omega (arith, (counted_so _ _ c.in_ok-count.ensures).1)
 pub returns-in_err-good : goal.returns-in_err-good
 returns-in_err-good c =
     let p = err_from_is_err_and c.from_residual-in_err-good.result c.from_residual-in_err-good.ensures.1 in
-    let b = opened_bad (λ (r : Refusal). record { «record» = c.loop-n.n-counter; refusal = r }) _ (λ r d p. search rules) _ _ _ _ c.open_at.ensures c.map_err.ensures.cases _ c.in_err-good.was in
-    rw (p.1, p.2, b.given)
-    (all_give (goal.at.returns-in_err-good c).In_ok-count _ (c.loop-n.invariant.left ∙ check_on _ _ _ c.loop-n-test.true _ refl _ b.judged))
+    let b = made_err _ _ _ c.map_err.ensures.cases _ c.in_err-good.was in
+    let made : c.in_err-good.field-0.0 ≡ record { «record» = c.loop-n.n-counter; refusal = b.0 } = search (rules, b.1) in
+    rw (p.1, p.2, made)
+    (all_give (goal.at.returns-in_err-good c).In_ok-count _ (c.loop-n.invariant.left ∙ check_on _ _ _ c.loop-n-test.true _ refl _ (opened_bad _ _ _ b.2 c.open_at.ensures)))
 
 pub is_repeated-requires : goal.is_repeated-requires
 is_repeated-requires c = (
@@ -55,13 +56,13 @@ is_repeated-requires c = (
 -- an earlier live one has its name, or none
 repeated : (c : After-is_repeated) → repeats c.args.file.now c.loop-n.n-counter ≡ c.is_repeated.result
 repeated c =
-    repeats_by_bytes _ _ _ _ (opened_good (λ (r : Refusal). record { «record» = c.loop-n.n-counter; refusal = r }) _ (λ r d p. search rules) _ _ _ _ c.open_at.ensures c.map_err.ensures.cases _ c.in_ok-good.was) c.loop-n.invariant.seen
+    repeats_by_bytes _ _ _ _ (opened_good _ _ _ (kept_ok _ _ _ c.map_err.ensures.cases _ c.in_ok-good.was) c.open_at.ensures) c.loop-n.invariant.seen
     ∙ sym c.is_repeated.ensures
 
 -- its bucket is that of the name in its bytes
 bucket_here : (c : After-bucket_of-bucket) → bucket_of (written_name (record_at c.args.file.now c.loop-n.n-counter)) ≡ c.bucket_of-bucket.result
 bucket_here c =
-    let here = opened_good (λ (r : Refusal). record { «record» = c.loop-n.n-counter; refusal = r }) _ (λ r d p. search rules) _ _ _ _ c.open_at.ensures c.map_err.ensures.cases _ c.in_ok-good.was in
+    let here = opened_good _ _ _ (kept_ok _ _ _ c.map_err.ensures.cases _ c.in_ok-good.was) c.open_at.ensures in
     ap bucket_of (sym (name_is_written c.args.file.now c.loop-n.n-counter _ _ here) ∙ sym c.from.ensures) ∙ sym c.bucket_of-bucket.ensures.0
 
 pub returns-then-is_repeated : goal.returns-then-is_repeated

@@ -7,11 +7,11 @@ use Rattle.std.proofs.lemmas.Result.{err_from_is_err_and}
 use Rattle.envelope.specs.Refusals.{plainly}
 use Rattle.envelope.specs.Told.{told_envelope}
 use Rattle.golden.proofs.FileLaws.{counted_so}
+use Rattle.golden.proofs.MappedLaws.{kept_ok, made_err}
 use Rattle.golden.proofs.FindingLaws.{opened_good, opened_bad, find_uncounted, find_all, find_on, find_end}
 use Rattle.golden.specs.File.{judged_at}
 use Rattle.golden.specs.Finding.{FindAnswer, find_from, finding, told_name, refused}
 use Rattle.golden.specs.Record.{good}
-use Rattle.golden.specs.declared.refusal.Refusal.{Refusal}
 use Rattle.golden.proofs.finder.find.Goals as goal
 use Rattle.golden.proofs.finder.find.Goals.{In_ok-count, In_ok-good}
 
@@ -23,7 +23,7 @@ all_give c x e =
 
 -- the record at hand is good
 good_here : (c : In_ok-good) → judged_at c.args.file.now c.loop-n.n ≡ good c.in_ok-good.good.retired (told_envelope c.in_ok-good.good.envelope)
-good_here c = opened_good (λ (r : Refusal). record { refusal = r; opened = c.loop-n.n + 1 }) _ (λ r d p. search rules) _ _ _ _ c.open_at.ensures c.map_err.ensures.cases _ c.in_ok-good.was
+good_here c = opened_good _ _ _ (kept_ok _ _ _ c.map_err.ensures.cases _ c.in_ok-good.was) c.open_at.ensures
 
 pub returns-in_err-count : goal.returns-in_err-count
 returns-in_err-count c =
@@ -36,9 +36,10 @@ open_at-requires c = omega (arith, (counted_so _ _ c.in_ok-count.ensures).1)
 pub returns-in_err-good : goal.returns-in_err-good
 returns-in_err-good c =
     let p = err_from_is_err_and c.from_residual-in_err-good.result c.from_residual-in_err-good.ensures.1 in
-    let b = opened_bad (λ (r : Refusal). record { refusal = r; opened = c.loop-n.n + 1 }) _ (λ r d p. search rules) _ _ _ _ c.open_at.ensures c.map_err.ensures.cases _ c.in_err-good.was in
-    rw (p.1, p.2, b.given)
-    (all_give (goal.at.returns-in_err-good c).In_ok-count _ (c.loop-n.invariant ∙ find_on _ _ _ _ c.loop-n-test.true _ b.judged))
+    let b = made_err _ _ _ c.map_err.ensures.cases _ c.in_err-good.was in
+    let made : c.in_err-good.field-0.0 ≡ record { refusal = b.0; opened = c.loop-n.n + 1 } = search (rules, b.1) in
+    rw (p.1, p.2, made)
+    (all_give (goal.at.returns-in_err-good c).In_ok-count _ (c.loop-n.invariant ∙ find_on _ _ _ _ c.loop-n-test.true _ (opened_bad _ _ _ b.2 c.open_at.ensures)))
 
 pub returns-then-is_named : goal.returns-then-is_named
 returns-then-is_named c =

@@ -6,19 +6,19 @@ use Rattle.std.proofs.Common.{rules}
 use Rattle.std.proofs.lemmas.Result.{err_from_is_err_and}
 use Rattle.envelope.specs.Told.{told_envelope}
 use Rattle.golden.proofs.FileLaws.{counted_so}
+use Rattle.golden.proofs.MappedLaws.{kept_ok, made_err}
 use Rattle.golden.proofs.FindingLaws.{opened_good, opened_bad}
 use Rattle.golden.proofs.HalvingLaws.{halving_on, halving_end}
 use Rattle.golden.proofs.TurnLaws.{halving_uncounted, halving_begin, goes_after, is_named_so, goes_before}
 use Rattle.golden.specs.File.{judged_at}
 use Rattle.golden.specs.Halving.{half}
 use Rattle.golden.specs.Record.{good}
-use Rattle.golden.specs.declared.refusal.Refusal.{Refusal}
 use Rattle.golden.proofs.halver.find_by_halving.Goals as goal
 use Rattle.golden.proofs.halver.find_by_halving.Goals.{In_ok-good}
 
 -- the record in the middle is good
 good_here : (c : In_ok-good) → judged_at c.args.file.now (half c.loop-first.first c.loop-first.end) ≡ good c.in_ok-good.good.retired (told_envelope c.in_ok-good.good.envelope)
-good_here c = opened_good (λ (r : Refusal). record { refusal = r; opened = c.loop-first.opened + 1 }) _ (λ r d p. search rules) _ _ _ _ c.open_at.ensures c.map_err.ensures.cases _ c.in_ok-good.was
+good_here c = opened_good _ _ _ (kept_ok _ _ _ c.map_err.ensures.cases _ c.in_ok-good.was) c.open_at.ensures
 
 pub returns-in_err-end : goal.returns-in_err-end
 returns-in_err-end c =
@@ -33,8 +33,9 @@ loop-first-init c =
 pub returns-in_err-good : goal.returns-in_err-good
 returns-in_err-good c =
     let p = err_from_is_err_and c.from_residual-in_err-good.result c.from_residual-in_err-good.ensures.1 in
-    let b = opened_bad (λ (r : Refusal). record { refusal = r; opened = c.loop-first.opened + 1 }) _ (λ r d p. search rules) _ _ _ _ c.open_at.ensures c.map_err.ensures.cases _ c.in_err-good.was in
-    rw (p.1, p.2, b.given) (sym (c.loop-first.invariant.left ∙ halving_on _ _ _ _ _ c.loop-first-test.true _ b.judged))
+    let b = made_err _ _ _ c.map_err.ensures.cases _ c.in_err-good.was in
+    let made : c.in_err-good.field-0.0 ≡ record { refusal = b.0; opened = c.loop-first.opened + 1 } = search (rules, b.1) in
+    rw (p.1, p.2, made) (sym (c.loop-first.invariant.left ∙ halving_on _ _ _ _ _ c.loop-first-test.true _ (opened_bad _ _ _ b.2 c.open_at.ensures)))
 
 pub loop-first-preserved-in-Less : goal.loop-first-preserved-in-Less
 loop-first-preserved-in-Less c =

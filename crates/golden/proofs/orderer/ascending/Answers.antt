@@ -6,12 +6,12 @@ use Rattle.std.proofs.Common.{rules}
 use Rattle.std.proofs.lemmas.Result.{err_from_is_err_and}
 use Rattle.envelope.specs.Told.{told_envelope}
 use Rattle.golden.proofs.FileLaws.{counted_so}
+use Rattle.golden.proofs.MappedLaws.{kept_ok, made_err}
 use Rattle.golden.proofs.FindingLaws.{opened_good, opened_bad}
 use Rattle.golden.proofs.OrderingLaws.{order_uncounted, order_all, order_on, order_end, placed, comes_after, after_so}
 use Rattle.golden.specs.File.{judged_at}
 use Rattle.golden.specs.Ordering.{OrderAnswer, in_place, order_from, ordering}
 use Rattle.golden.specs.Record.{good}
-use Rattle.golden.specs.declared.refusal.Refusal.{Refusal}
 use Rattle.golden.proofs.orderer.ascending.Goals as goal
 use Rattle.golden.proofs.orderer.ascending.Goals.{In_ok-count, In_ok-good, After-is_some_and}
 
@@ -23,7 +23,7 @@ all_give c x e =
 
 -- the record at hand is good
 good_here : (c : In_ok-good) → judged_at c.args.file.now c.loop-n.n-counter ≡ good c.in_ok-good.good.retired (told_envelope c.in_ok-good.good.envelope)
-good_here c = opened_good (λ (r : Refusal). record { «record» = c.loop-n.n-counter; refusal = r }) _ (λ r d p. search rules) _ _ _ _ c.open_at.ensures c.map_err.ensures.cases _ c.in_ok-good.was
+good_here c = opened_good _ _ _ (kept_ok _ _ _ c.map_err.ensures.cases _ c.in_ok-good.was) c.open_at.ensures
 
 pub returns-in_err-count : goal.returns-in_err-count
 returns-in_err-count c =
@@ -36,14 +36,15 @@ open_at-requires c = omega (arith, (counted_so _ _ c.in_ok-count.ensures).1)
 pub returns-in_err-good : goal.returns-in_err-good
 returns-in_err-good c =
     let p = err_from_is_err_and c.from_residual-in_err-good.result c.from_residual-in_err-good.ensures.1 in
-    let b = opened_bad (λ (r : Refusal). record { «record» = c.loop-n.n-counter; refusal = r }) _ (λ r d p. search rules) _ _ _ _ c.open_at.ensures c.map_err.ensures.cases _ c.in_err-good.was in
-    rw (p.1, p.2, b.given)
-    (all_give (goal.at.returns-in_err-good c).In_ok-count _ (c.loop-n.invariant.0 ∙ order_on _ _ _ c.loop-n-test.true _ refl _ b.judged))
+    let b = made_err _ _ _ c.map_err.ensures.cases _ c.in_err-good.was in
+    let made : c.in_err-good.field-0.0 ≡ record { «record» = c.loop-n.n-counter; refusal = b.0 } = search (rules, b.1) in
+    rw (p.1, p.2, made)
+    (all_give (goal.at.returns-in_err-good c).In_ok-count _ (c.loop-n.invariant.0 ∙ order_on _ _ _ c.loop-n-test.true _ refl _ (opened_bad _ _ _ b.2 c.open_at.ensures)))
 
 -- and in place, or not
 place_here : (c : After-is_some_and) → in_place c.args.file.now c.loop-n.n-counter ≡ not c.is_some_and.result
 place_here c =
-    let here = opened_good (λ (r : Refusal). record { «record» = c.loop-n.n-counter; refusal = r }) _ (λ r d p. search rules) _ _ _ _ c.open_at.ensures c.map_err.ensures.cases _ c.in_ok-good.was in
+    let here = opened_good _ _ _ (kept_ok _ _ _ c.map_err.ensures.cases _ c.in_ok-good.was) c.open_at.ensures in
     placed _ _ c.loop-n.last _ _ here c.loop-n.invariant.1
     ∙ ap (comes_after c.loop-n.last) (sym c.from-name.ensures)
     ∙ after_so c.from-name.result c.loop-n.last _ _ (λ x p. search rules) c.is_some_and.ensures
