@@ -19,6 +19,7 @@ use Rattle.feed.specs.Verdict.{reads, too_long, cut}
 use Rattle.feed.proofs.PlaceLaws.{same_reading, too_long_not_read, cut_not_read, take_keeps_place, end_keeps_place}
 use Rattle.feed.proofs.RefusedLaws.{inside_not_refused, whole_not_refused, same_refused}
 use Rattle.feed.specs.declared.refusal.Refusal.TheVariants.{MessageRefused, TooLong, Cut}
+use Rattle.feed.specs.declared.step.Beside.{Beside}
 use Rattle.feed.specs.declared.step.Standing.{Standing}
 use Rattle.feed.specs.declared.step.Standing.TheVariants.{Inside, Whole, Refused}
 use Rattle.exports.specs.Feeds.{standing_number, refusal_for, standing_for, state_numbers, state_for, found_slots, lent_after, StorageTellsPlace, StorageKeepsTheState, TakeLeavesTheState, EndLeavesTheState, TakeForCIsTake, EndForCIsEnd, RestartForCIsNew, MessageForCIsHeld}
@@ -27,13 +28,9 @@ use Rattle.exports.specs.Word.{word, sized}
 length-take_most : (n : ℕ) (l : List ℕ) → length (take n l) ≤ length l
 length-take_most n l = omega (arith, ap length (take-append-drop n l), length-append (take n l) (drop n l))
 
-pub state_lent : (kept numbers : List ℕ) (standing : Standing) → told_standing standing ≡ standing_for (get_or numbers 1 0) (get_or numbers 0 0)
-    → state_of kept (get_or numbers 0 0) standing ≡ state_for kept numbers
-state_lent kept numbers standing e = λ i. record { kept = kept; count = get_or numbers 0 0; stand = e i }
-
 -- a message that is held is no longer than what is kept
-pub held_short : (kept numbers : List ℕ) (standing : Standing) → length (holding (state_of kept (get_or numbers 0 0) standing)) ≤ length kept
-held_short kept numbers standing = length-take_most (size_by (told_standing standing) (get_or numbers 0 0)) kept
+pub held_short : (kept : List ℕ) (beside : Beside) → length (holding (state_of kept beside)) ≤ length kept
+held_short kept beside = length-take_most (size_by (told_standing beside.standing) beside.count) kept
 
 -- ---- the storage keeps the state, its place too
 
@@ -56,7 +53,7 @@ standing_kept (Refused TooLong) count h = refl
 standing_kept (Refused Cut) count h = refl
 
 pub storage_keeps_the_state : StorageKeepsTheState
-storage_keeps_the_state f told = λ i. record { kept = f.kept; count = f.count; stand = standing_kept f.standing f.count told i }
+storage_keeps_the_state f told = λ i. record { kept = f.kept; count = f.beside.count; stand = standing_kept f.beside.standing f.beside.count told i }
 
 -- whatever the two numbers are, they tell the place by the count
 stored_place : (number count : ℕ) (r : Refusal) → standing_for number count ≡ refused (reads r) → r.place ≡ place_for r.number (in_room count)
@@ -119,7 +116,7 @@ message_for_c_is_held f kept numbers r m stores promise h =
     let same = ap (λ (s : State). s.kept) stores in (
       promise ∙ ap (λ (x : List ℕ). word (sized (length x))) holds,
       h
-          ∙ take_again (size_by (told_standing f.standing) f.count) f.kept
+          ∙ take_again (size_by (told_standing f.beside.standing) f.beside.count) f.kept
           ∙ ap (λ (x : List ℕ). take (length x) f.kept) (sym h)
           ∙ ap (λ (x : List ℕ). take (length m) x) (sym same),
     )

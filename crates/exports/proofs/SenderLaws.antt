@@ -10,8 +10,9 @@ use lib.ListN.{get_or}
 use Rattle.envelope.specs.Refusals.{Refused, numbers_of}
 use Rattle.sender.specs.Queue.{Slot, empty, holds, Event, Reply, sent, waits, settles, again, fails, refused, answering}
 use Rattle.sender.specs.Told.{told_sender_refusal, Beside, beside, queue_of, leaving, Happening, happening, told_flight, told_answer, told_bench, state_of, told_step, Answers, StartAnswer}
+use Rattle.std.specs.Prelude.{Result}
+use Rattle.sender.specs.declared.bench.Answer.{Answer}
 use Rattle.sender.specs.declared.bench.Bench.{Bench}
-use Rattle.sender.specs.declared.bench.Step.{Step}
 use Rattle.sender.specs.declared.refusal.Refusal.{Refusal}
 use Rattle.sender.specs.declared.refusal.Refusal.TheVariants.{Full, Known, NotInFlight, TooManyResends}
 use Rattle.exports.specs.Senders.{slot_for, beside_for, sender_for, flight_commid, flight_number, beside_numbers, reply_slots, numbers_after, SenderLent, sender_lent, lent_by, AnswersForC, start_numbers, FlightFits, BesideFits, StorageKeepsTheBench, EventForCIsEvent, EventLeavesTheBench, StartLeavesTheBench}
@@ -39,22 +40,22 @@ told_flight_fits numbers bench e =
 
 -- ---- a call, from the bench that the numbers hold
 
-stored_happening : (e : Event) (waiting numbers : List ℕ) (bench : Bench) (step : Step) (places : List ℕ) → beside_for numbers ≡ told_bench bench → Answers e bench waiting step places
-    → told_step step places ≡ happening e (sender_for waiting numbers)
-stored_happening e waiting numbers bench step places b p =
+stored_happening : (e : Event) (waiting numbers : List ℕ) (bench : Bench) (answer : Result Answer Refusal) (later : Bench) (places : List ℕ) → beside_for numbers ≡ told_bench bench → Answers e bench waiting answer later places
+    → told_step answer later places ≡ happening e (sender_for waiting numbers)
+stored_happening e waiting numbers bench answer later places b p =
     p ∙ ap (λ (x : Beside). happening e (record { places = waiting; beside = x })) (sym b)
 
-pub answered_for_c : (e : Event) (waiting numbers : List ℕ) (bench : Bench) (step : Step) (places after : List ℕ) (r : ℕ)
-    → told_bench bench ≡ beside_for numbers → Answers e bench waiting step places → r ≡ word (reply_slots (told_answer step.answer))
-    → after ≡ numbers_after (told_answer step.answer) (told_bench step.bench) numbers
+pub answered_for_c : (e : Event) (waiting numbers : List ℕ) (bench : Bench) (answer : Result Answer Refusal) (later : Bench) (places after : List ℕ) (r : ℕ)
+    → told_bench bench ≡ beside_for numbers → Answers e bench waiting answer later places → r ≡ word (reply_slots (told_answer answer))
+    → after ≡ numbers_after (told_answer answer) (told_bench later) numbers
     → AnswersForC e (sender_lent waiting numbers) r (sender_lent places after)
-answered_for_c e waiting numbers bench step places after r b p q n =
-    let h = stored_happening e waiting numbers bench step places (sym b) p in
+answered_for_c e waiting numbers bench answer later places after r b p q n =
+    let h = stored_happening e waiting numbers bench answer later places (sym b) p in
     (q ∙ ap (λ (x : Happening). word (reply_slots x.reply)) h, (λ i. sender_lent places (n i)) ∙ ap (λ (x : Happening). lent_by x numbers) h)
 
 pub event_for_c_is_event : EventForCIsEvent
-event_for_c_is_event e b entry r exit step places stores p q =
-    let h = sym (stored_happening e entry.waiting entry.numbers b step places stores q) in
+event_for_c_is_event e b entry r exit answer later places stores p q =
+    let h = sym (stored_happening e entry.waiting entry.numbers b answer later places stores q) in
     (p.0 ∙ ap (λ (x : Happening). word (reply_slots x.reply)) h, p.1 ∙ ap (λ (x : Happening). lent_by x entry.numbers) h)
 
 -- ---- the storage keeps the bench
@@ -84,17 +85,17 @@ numbers_left again b numbers f h = storage_keeps_the_bench b f
 numbers_left (fails o) b numbers f h = storage_keeps_the_bench b f
 numbers_left (refused k) b numbers f h = h k refl
 
-bench_kept : (e : Event) (b : Bench) (waiting : List ℕ) (step : Step) (places : List ℕ) (k : Refused) → Answers e b waiting step places
-    → told_answer step.answer ≡ refused k → told_bench b ≡ told_bench step.bench
-bench_kept e b waiting step places k q a =
+bench_kept : (e : Event) (b : Bench) (waiting : List ℕ) (answer : Result Answer Refusal) (later : Bench) (places : List ℕ) (k : Refused) → Answers e b waiting answer later places
+    → told_answer answer ≡ refused k → told_bench b ≡ told_bench later
+bench_kept e b waiting answer later places k q a =
     let s = state_of waiting b in
     let told = ap (λ (h : Happening). h.reply) q in
     sym (ap (λ (h : Happening). h.state.beside) q ∙ ap (λ (x : Reply). (leaving x (answering e (queue_of s)).after s).beside) (sym told ∙ a))
 
 pub event_leaves_the_bench : EventLeavesTheBench
-event_leaves_the_bench e b entry r exit step places stores p q f =
-    ap (λ (l : SenderLent). beside_for l.numbers) (event_for_c_is_event e b entry r exit step places stores p q).1
-    ∙ numbers_left (told_answer step.answer) step.bench entry.numbers f (λ k a. stores ∙ bench_kept e b entry.waiting step places k q a)
+event_leaves_the_bench e b entry r exit answer later places stores p q f =
+    ap (λ (l : SenderLent). beside_for l.numbers) (event_for_c_is_event e b entry r exit answer later places stores p q).1
+    ∙ numbers_left (told_answer answer) later entry.numbers f (λ k a. stores ∙ bench_kept e b entry.waiting answer later places k q a)
 
 pub start_leaves_the_bench : StartLeavesTheBench
 start_leaves_the_bench n b entry r exit p q f =

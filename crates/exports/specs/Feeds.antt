@@ -137,5 +137,5 @@ RestartForCIsNew = (f : Feed) (kept numbers : List ℕ) → Fresh f → Restarts
 -- and the message found is the one that `held` gives, at the front of the bytes kept
 abbrev pub MessageForCIsHeld : Type 0
 MessageForCIsHeld =
-    (f : Feed) (kept numbers : List ℕ) (r : ℕ) (m : List ℕ) → Stores kept numbers f → HoldsForC kept numbers r → Holds f.kept f.count f.standing m
+    (f : Feed) (kept numbers : List ℕ) (r : ℕ) (m : List ℕ) → Stores kept numbers f → HoldsForC kept numbers r → Holds f.kept f.beside m
     → (r ≡ word (sized (length m))) × (m ≡ take (length m) kept)

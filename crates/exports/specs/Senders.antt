@@ -1,6 +1,6 @@
 -- The sender as C sees it: its state in storage that is lent, each answer as a word, and what the lent storage then holds.
 -- The answers themselves are those of the crate `sender`. Any content of the storage is a state.
-use Rattle.std.specs.Prelude.{ℕ, ◌+◌, ◌-◌, ◌%◌, ◌≤◌, ◌<◌, cond, List, [], ◌∷◌, ◌++◌, ◌≡◌, eqb, length, take, get_or}
+use Rattle.std.specs.Prelude.{ℕ, ◌+◌, ◌-◌, ◌%◌, ◌≤◌, ◌<◌, cond, List, [], ◌∷◌, ◌++◌, ◌≡◌, eqb, length, take, get_or, Result, Ok}
 use Rattle.std.proofs.Math.Option.{Option, none, some}
 use Rattle.envelope.specs.Refusals.{plainly}
 use Rattle.sender.specs.Accounts.{those, in_slot, Accounted}
@@ -11,9 +11,9 @@ use Rattle.sender.specs.Queue.{most_waiting, Slot, empty, holds, Queue, Event, R
 use Rattle.sender.specs.Runs.{Follows}
 use Rattle.sender.specs.Sends.{AllSent}
 use Rattle.sender.specs.Told.{Beside, beside, State, queue_of, Happening, happening, told_answer, told_bench, StartAnswer, ready, no_bench, most_resends, starting, Starts, Answers}
+use Rattle.sender.specs.declared.bench.Answer.{Answer}
 use Rattle.sender.specs.declared.bench.Bench.{Bench}
-use Rattle.sender.specs.declared.bench.Start.TheVariants.{Ready}
-use Rattle.sender.specs.declared.bench.Step.{Step}
+use Rattle.sender.specs.declared.refusal.Refusal.{Refusal}
 use Rattle.exports.specs.Word.{Slots, slots, word, unword, done, refused_with}
 
 -- ---- the state: the 16 places, and four numbers: the resends that are set, how many wait, the COMMID in flight, and 0 for none or one more than the resends it has left
@@ -148,21 +148,21 @@ StorageKeepsTheBench = (b : Bench) → BesideFits (told_bench b) → StoresBench
 -- a call answers what the bench in the storage answers, and leaves the places as that call leaves them
 abbrev pub EventForCIsEvent : Type 0
 EventForCIsEvent =
-    (e : Event) (b : Bench) (entry : SenderLent) (r : ℕ) (exit : SenderLent) (step : Step) (places : List ℕ) → StoresBench entry.numbers b
-    → AnswersForC e entry r exit → Answers e b entry.waiting step places
-    → (r ≡ word (reply_slots (told_answer step.answer)))
-    × (exit ≡ sender_lent places (numbers_after (told_answer step.answer) (told_bench step.bench) entry.numbers))
+    (e : Event) (b : Bench) (entry : SenderLent) (r : ℕ) (exit : SenderLent) (answer : Result Answer Refusal) (after : Bench) (places : List ℕ) → StoresBench entry.numbers b
+    → AnswersForC e entry r exit → Answers e b entry.waiting answer after places
+    → (r ≡ word (reply_slots (told_answer answer)))
+    × (exit ≡ sender_lent places (numbers_after (told_answer answer) (told_bench after) entry.numbers))
 
 -- and the numbers then hold the bench that the call leaves: so the theorems about runs of calls hold for C
 abbrev pub EventLeavesTheBench : Type 0
 EventLeavesTheBench =
-    (e : Event) (b : Bench) (entry : SenderLent) (r : ℕ) (exit : SenderLent) (step : Step) (places : List ℕ) → StoresBench entry.numbers b
-    → AnswersForC e entry r exit → Answers e b entry.waiting step places → BesideFits (told_bench step.bench)
-    → StoresBench exit.numbers step.bench
+    (e : Event) (b : Bench) (entry : SenderLent) (r : ℕ) (exit : SenderLent) (answer : Result Answer Refusal) (after : Bench) (places : List ℕ) → StoresBench entry.numbers b
+    → AnswersForC e entry r exit → Answers e b entry.waiting answer after places → BesideFits (told_bench after)
+    → StoresBench exit.numbers after
 
 abbrev pub StartLeavesTheBench : Type 0
 StartLeavesTheBench =
-    (n : ℕ) (b : Bench) (entry : List ℕ) (r : ℕ) (exit : List ℕ) → StartsForC n entry r exit → Starts n (Ready b) → BesideFits (told_bench b) → StoresBench exit b
+    (n : ℕ) (b : Bench) (entry : List ℕ) (r : ℕ) (exit : List ℕ) → StartsForC n entry r exit → Starts n (Ok b) → BesideFits (told_bench b) → StoresBench exit b
 
 -- ---- any run of calls from C: its history is what was asked and what the words told
 

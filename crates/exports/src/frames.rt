@@ -73,9 +73,19 @@ fn unwrap_word(unwrapped: Result<Unwrapped, Refusal>) -> u64
 {
     match unwrapped {
         Ok(Unwrapped::Data(data)) => {
-            answer(0, 0, type_number(FrameType::Data), data.message.size)
+            answer(
+                0,
+                0,
+                usize::from(u8::from(FrameType::Data)),
+                data.message.size,
+            )
         }
-        Ok(Unwrapped::Acknowledged(_)) => answer(0, 0, type_number(FrameType::Acknowledgment), 0),
+        Ok(Unwrapped::Acknowledged(_)) => answer(
+            0,
+            0,
+            usize::from(u8::from(FrameType::Acknowledgment)),
+            0,
+        ),
         Err(refusal) => refused_answer(Numbers::from(refusal), 0),
     }
 }

@@ -1,11 +1,9 @@
 -- `feeds::morlewen_feed_take`: the promise of `advance`, told in a word, in two numbers and in sixteen.
-use mathlib.Core.List.{[], ◌∷◌}
-use mathlib.Core.Path.{ap, sym, subst, ◌∙◌}
-use lib.ListN.{get_or}
+use Rattle.std.proofs.Common.{ap, sym, subst, ◌∙◌}
 use Rattle.feed.specs.Feeding.{State, FeedOutcome, taking}
 use Rattle.feed.specs.Places.{CountTellsPlace}
 use Rattle.feed.specs.Told.{state_of, told_step}
-use Rattle.exports.proofs.FeedLaws.{state_lent, stored_tells_place}
+use Rattle.exports.proofs.FeedLaws.{stored_tells_place}
 use Rattle.exports.proofs.FitsLaws.{take_fits}
 use Rattle.exports.specs.Feeds.{found_slots, lent_after}
 use Rattle.exports.specs.Word.{word}
@@ -15,22 +13,15 @@ pub found_word-requires : goal.found_word-requires
 found_word-requires c =
     let step = c.advance-step in
     let args = c.args in
-    let stood = c.standing_of in
-    let stands = state_lent args.kept.now args.numbers.now stood.result stood.ensures in
-    take_fits (state_of args.kept.now (get_or args.numbers.now 0 0) stood.result) (told_step step.result step.new.kept)
-    (subst CountTellsPlace (sym stands) (stored_tells_place args.kept.now args.numbers.now)) step.ensures.1 step.ensures.2
+    take_fits (state_of args.kept.now c.beside_in.result) (told_step step.result step.new.kept)
+    (subst CountTellsPlace (sym (c.beside_in.ensures args.kept.now)) (stored_tells_place args.kept.now args.numbers.now)) step.ensures.1 step.ensures.2
 
 pub returns : goal.returns
 returns c =
     let step = c.advance-step in
     let args = c.args in
-    let stood = c.standing_of in
-    let stands = state_lent args.kept.now args.numbers.now stood.result stood.ensures in
-    let takes = step.ensures.0 ∙ ap (λ (s : State). taking s args.piece.now) stands in (
+    let takes = step.ensures.0 ∙ ap (λ (s : State). taking s args.piece.now) (c.beside_in.ensures args.kept.now) in (
       c.found_word.ensures ∙ ap (λ (o : FeedOutcome). word (found_slots o.finding o.used)) takes,
-      (λ i. record {
-        kept = step.new.kept;
-        numbers = step.result.count ∷ c.standing_number.ensures i ∷ [];
-        fields = c.put_found.ensures i;
-      }) ∙ ap (λ (o : FeedOutcome). lent_after o args.fields.now) takes,
+      (λ i. record { kept = step.new.kept; numbers = c.beside_numbers.ensures step.new.kept i; fields = c.put_found.ensures i })
+      ∙ ap (λ (o : FeedOutcome). lent_after o args.fields.now) takes,
     )

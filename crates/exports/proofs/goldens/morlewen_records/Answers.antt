@@ -1,13 +1,6 @@
 -- `goldens::morlewen_records`: the promise of `count`, told in a word.
-use mathlib.Core.Path.{ap, ◌∙◌}
-use Rattle.golden.specs.Listing.{CountAnswer}
 use Rattle.exports.proofs.FitsLaws.{count_fits}
-use Rattle.exports.specs.Goldens.{count_slots}
-use Rattle.exports.specs.Word.{word}
 use Rattle.exports.proofs.goldens.morlewen_records.Goals as goal
 
 pub count_word-requires : goal.count_word-requires
 count_word-requires c = count_fits _ _ c.count.ensures
-
-pub returns : goal.returns
-returns c = c.count_word.ensures ∙ ap (λ (a : CountAnswer). word (count_slots a)) c.count.ensures

@@ -1,12 +1,8 @@
 -- `goldens::morlewen_step`: the promise of `step`, told in a word and in two numbers; a step goes on by one or stays.
-use mathlib.Core.Path.{ap, ◌∙◌}
 use Prim.Native.Nat.{◌-◌}
 use native.Mathlib.Omega.{arith}
 use Rattle.golden.proofs.FewLaws.{step_goes_on_by_one}
-use Rattle.golden.specs.Stepping.{StepAnswer}
 use Rattle.exports.proofs.FitsLaws.{step_fits}
-use Rattle.exports.specs.Goldens.{step_slots, part_after}
-use Rattle.exports.specs.Word.{word}
 use Rattle.exports.proofs.goldens.morlewen_step.Goals as goal
 
 pub overflow_sub-stepping : goal.overflow_sub-stepping
@@ -16,10 +12,3 @@ pub step_word-requires : goal.step_word-requires
 step_word-requires c =
     let steps = c.step-stepping.ensures in
     (omega (arith, steps.1, (step_goes_on_by_one c.args.file.now c.args.«record»).1), step_fits _ _ _ _ steps.0)
-
-pub returns : goal.returns
-returns c =
-    let steps = c.step-stepping.ensures in (
-      c.step_word.ensures ∙ (λ i. word (step_slots (steps.0 i) (steps.1 i - c.args.«record»))),
-      c.put_part.ensures ∙ ap (λ (a : StepAnswer). part_after a c.args.part.now) steps.0,
-    )
