@@ -1,9 +1,10 @@
 -- Laws of the first zero of a list: as a loop meets it, and of a list's front.
 -- Inductions on the list.
-use Rattle.std.proofs.Common.{◌≡◌, ℕ, zero, suc, ◌+◌, ◌<◌, ◌≤◌, Bool, true, false, cond, ◌||◌, eqb, ltb, Some, None, List, [], ◌∷◌, ◌++◌, length, get_or, take, drop, sym, refl, ap, ◌∙◌, add-one, arith, ltb-false, drop_of_length-le, drop-cons, lt-ltb, eq-eqb, ne_eqb}
+use Rattle.std.proofs.Common.{◌≡◌, ℕ, zero, suc, ◌+◌, ◌<◌, ◌≤◌, Bool, true, false, cond, not, ◌||◌, eqb, ltb, Some, None, List, [], ◌∷◌, ◌++◌, length, get_or, take, drop, sym, refl, ap, ◌∙◌, add-one, arith, ltb-false, drop_of_length-le, drop-cons, lt-ltb, eq-eqb, ne_eqb}
 use Rattle.std.specs.List.{position_or_len, position, list_any}
 use Rattle.std.specs.Option.{unwrap_or}
 use Rattle.std.proofs.lemmas.List.Recursion.{is_position_or_len}
+use Rattle.std.proofs.lemmas.List.Sums.{prefix_len-le-length}
 use lib.Dec.{leb-suc-suc}
 use Rattle.envelope.specs.Addresses.{first_zero}
 use Rattle.envelope.specs.Writing.{has_zero}
@@ -45,13 +46,7 @@ unfolding first_zero
 first_zero_is s = is_position_or_len first_zero (λ b. eqb b 0) refl (λ b r. grind arith) s
 
 pub first_zero_most : (s : List ℕ) → first_zero s ≤ length s
-unfolding first_zero
-first_zero_most [] = omega arith
-first_zero_most (b ∷ s) = no_more (eqb b 0) (first_zero s) (length s) (first_zero_most s)
-  where
-    no_more : (z : Bool) (f l : ℕ) → f ≤ l → cond z 0 (suc f) ≤ suc l
-    no_more true f l h = omega arith
-    no_more false f l h = omega arith
+first_zero_most s = rw (first_zero_is s) (prefix_len-le-length (λ b. not (eqb b 0)) s)
 
 pub first_zero_found : (s : List ℕ) → unwrap_or (position (λ b. eqb b 0) s) (length s) ≡ first_zero s
 first_zero_found s = rw (← first_zero_is s) (found (first_zero s) (length s) (first_zero_most s))

@@ -8,7 +8,7 @@ ghost use Rattle.envelope.specs.Numbers.{four_at};
 ghost use Rattle.envelope.specs.Reading.{integrity_of};
 ghost use Rattle.envelope.specs.Helpers.{unless_refused, told_found_integrity};
 
-use crate::fields::{Envelope, Integrity, Kind};
+use crate::fields::{Integrity, Kind};
 use crate::numbers::four_at;
 use crate::reader::{Fault, Refusal};
 
@@ -20,24 +20,14 @@ pub(crate) fn integrity_of(bytes: &[u8], kind: Kind, place: usize) -> Result<Int
         (integrity_of (told_kind kind) (four_at bytes.now place)) }
 {
     let held = four_at(bytes, place);
-    let bad = Refusal {
-        fault: Fault::BadIntegrity,
-        place,
-    };
     match kind {
-        Kind::None => {
-            if held == 0 {
-                return Ok(Integrity::None);
-            }
-            Err(bad)
-        }
-        Kind::Crc => {
-            if held == sum::crc(&bytes[Envelope::VERSION_PLACE..place]) {
-                return Ok(Integrity::Crc(held));
-            }
-            Err(bad)
-        }
+        Kind::None if held == 0 => Ok(Integrity::None),
+        Kind::Crc if held == sum::crc(&bytes[..place]) => Ok(Integrity::Crc(held)),
         // Rule 3 has refused a kind that is not assigned.
         Kind::Application | Kind::Unassigned => Ok(Integrity::Application(held)),
+        Kind::None | Kind::Crc => Err(Refusal {
+            fault: Fault::BadIntegrity,
+            place,
+        }),
     }
 }
