@@ -18,6 +18,7 @@ pub struct Layout {
 }
 
 // Where there are no addresses the body follows the header, and no place is asked of a destination.
+#[tactic(auto, unfolding(crate::specs::Layout::layout_of))]
 pub fn layout_of(message: &[u8]) -> Layout
     ensures { LaidOut message.now result }
 {
@@ -38,6 +39,7 @@ fn variable_size(message: &[u8]) -> usize
 }
 
 // D.
+#[tactic(auto, unfolding(envelope::specs::Numbers::three_at))]
 fn data_length(message: &[u8]) -> usize
     ensures { result ≡ data_length message.now }
 {
