@@ -1,7 +1,7 @@
 -- Laws of the first zero of a list: as a loop meets it, and of a list's front.
 -- Inductions on the list.
 use Rattle.std.proofs.Common.{◌≡◌, ℕ, zero, suc, ◌+◌, ◌<◌, ◌≤◌, Bool, true, false, cond, ◌||◌, eqb, ltb, Some, None, List, [], ◌∷◌, ◌++◌, length, get_or, take, drop, sym, refl, ap, ◌∙◌, add-one, arith, ltb-false, drop_of_length-le, drop-cons, lt-ltb, eq-eqb, ne_eqb}
-use Rattle.std.specs.List.{position_or_len, position}
+use Rattle.std.specs.List.{position_or_len, position, list_any}
 use Rattle.std.specs.Option.{unwrap_or}
 use Rattle.std.proofs.lemmas.List.Recursion.{is_position_or_len}
 use lib.Dec.{leb-suc-suc}
@@ -62,6 +62,12 @@ first_zero_found s = rw (← first_zero_is s) (found (first_zero s) (length s) (
         at_or_past : (t : Bool) → ltb f l ≡ t → unwrap_or (cond t (Some f) None) l ≡ f
         at_or_past true e = refl
         at_or_past false e = omega (arith, ltb-false f l e)
+
+-- the library's `contains` tells whether there is one
+pub zero_contained : (s : List ℕ) → list_any (λ b. eqb b 0) s ≡ has_zero s
+unfolding has_zero
+zero_contained [] = refl
+zero_contained (b ∷ s) = ap (λ (h : Bool). eqb b 0 || h) (zero_contained s)
 
 -- a list has a zero where its first zero is inside it
 pub zero_inside : (s : List ℕ) → has_zero s ≡ ltb (first_zero s) (length s)

@@ -38,25 +38,20 @@ pub struct Addressing {
     pub destination: Part,
 }
 
-// The integrity kinds of the flags.
+// The integrity kinds, each with its number in the flags.
 #[derive(Clone, Copy, PartialEq, Eq)]
 pub enum Kind {
-    None,
-    Crc,
-    Application,
-    Unassigned,
+    None = 0,
+    Crc = 1,
+    Application = 2,
+    Unassigned = 3,
 }
 
 impl From<Kind> for u8 {
     ghost from_gives = { NumbersKind };
 
     fn from(kind: Kind) -> u8 {
-        match kind {
-            Kind::None => 0,
-            Kind::Crc => 1,
-            Kind::Application => 2,
-            Kind::Unassigned => 3,
-        }
+        kind as u8
     }
 }
 

@@ -12,16 +12,24 @@ use crate::flags;
 use crate::integrity_field::integrity_of;
 use crate::numbers::{four_at, three_at, two_at};
 
-// The rules of reading, in their order.
+// The rules of reading, in their order, each with its number in the table of refusals.
 #[derive(Clone, Copy)]
 pub enum Fault {
-    TooShort,
-    WrongVersion,
-    BadFlags,
-    BadVariableSize,
-    WrongLength,
-    BadAddresses,
-    BadIntegrity,
+    TooShort = 1,
+    WrongVersion = 2,
+    BadFlags = 3,
+    BadVariableSize = 4,
+    WrongLength = 5,
+    BadAddresses = 6,
+    BadIntegrity = 7,
+}
+
+impl From<Fault> for u8 {
+    ghost from_gives = { NumbersFault };
+
+    fn from(fault: Fault) -> u8 {
+        fault as u8
+    }
 }
 
 // The rule that is broken, and the place in the message that it names. Whoever passes a refusal on passes it on whole.
@@ -126,21 +134,4 @@ fn bad_variable_size(v: u8) -> bool
     ensures { result ≡ bad_variable_size v }
 {
     v != 0 && !(Envelope::SMALLEST_VARIABLE..=Envelope::LARGEST_VARIABLE).contains(&usize::from(v))
-}
-
-// The number of the table of refusals.
-impl From<Fault> for u8 {
-    ghost from_gives = { NumbersFault };
-
-    fn from(fault: Fault) -> u8 {
-        match fault {
-            Fault::TooShort => 1,
-            Fault::WrongVersion => 2,
-            Fault::BadFlags => 3,
-            Fault::BadVariableSize => 4,
-            Fault::WrongLength => 5,
-            Fault::BadAddresses => 6,
-            Fault::BadIntegrity => 7,
-        }
-    }
 }

@@ -8,7 +8,6 @@ ghost use Rattle.envelope.specs.Message.{header_bytes, variable_of, before_field
 ghost use Rattle.envelope.specs.Told.{told_header};
 ghost use Rattle.envelope.specs.Writing.{bad_end, bad_ends, stray_integrity, writing, answer_to_writing, told_given, told_writing, NumbersWriteFault, Writes};
 
-use crate::addresses::first_zero;
 use crate::fields::{Envelope, Header, Kind};
 use crate::flags;
 use crate::numbers::{four_digits, three_digits, two_digits};
@@ -143,11 +142,11 @@ impl Given<'_> {
     }
 }
 
-#[tactic(auto, using(crate::proofs::ZeroLaws::zero_inside), unfolding(crate::specs::Writing::bad_end))]
+#[tactic(auto, unfolding(crate::specs::Writing::bad_end))]
 fn bad_end(end: &[u8]) -> bool
     ensures { result ≡ bad_end end.now }
 {
-    Envelope::LARGEST_ADDRESS <= end.len() || first_zero(end) < end.len()
+    Envelope::LARGEST_ADDRESS <= end.len() || end.contains(&0)
 }
 
 // Rule 14.
