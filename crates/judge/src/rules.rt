@@ -65,7 +65,7 @@ pub(crate) fn variable_size(bytes: &[u8]) -> Verdict
 }
 
 // 5: 17 + V + D + 4 is not the number of bytes lent.
-#[tactic(auto, unfolding(crate::specs::Rules::length_rule))]
+#[tactic(auto, using(envelope::proofs::HeadingLaws::announced_is), unfolding(crate::specs::Rules::length_rule))]
 pub(crate) fn length(bytes: &[u8]) -> Verdict
     ensures { told_verdict result ≡ length_rule bytes.now }
 {
@@ -79,6 +79,7 @@ pub(crate) fn length(bytes: &[u8]) -> Verdict
 }
 
 // 6: V is not 0 and the addresses break their rule. Judged for V from 6 to 132 alone, on bytes 21 to 16 + V.
+#[tactic(auto, using(envelope::proofs::AddressLaws::addresses_present), unfolding(crate::specs::Rules::addresses_rule))]
 pub(crate) fn addresses(bytes: &[u8]) -> Verdict
     ensures { told_verdict result ≡ addresses_rule bytes.now }
 {
@@ -98,6 +99,7 @@ pub(crate) fn addresses(bytes: &[u8]) -> Verdict
 
 // 7: kind none with a non-zero integrity field, or kind CRC with a field that is not the CRC.
 // The field is the four bytes from place 17 + V + D, wherever the bytes lent end.
+#[tactic(auto, using(envelope::proofs::HeadingLaws::announced_is), unfolding(crate::specs::Rules::integrity_rule))]
 pub(crate) fn integrity(bytes: &[u8]) -> Verdict
     ensures { told_verdict result ≡ integrity_rule bytes.now }
 {
@@ -140,6 +142,7 @@ fn bad_variable_size(v: usize) -> bool
 }
 
 // The region is not two addresses, each at most 64 bytes with its closing zero.
+#[tactic(auto, using(envelope::proofs::AddressLaws::scanned_two, envelope::proofs::AddressLaws::not_two, envelope::proofs::AddressLaws::destination_is))]
 fn bad_region(region: &[u8]) -> bool
     ensures { result ≡ not (two_addresses region.now) }
 {
@@ -151,6 +154,7 @@ fn bad_region(region: &[u8]) -> bool
     Envelope::LARGEST_ADDRESS <= destination || source + 1 + (destination + 1) != region.len()
 }
 
+#[tactic(auto, using(envelope::proofs::RuleLaws::four_at_is), unfolding(envelope::specs::IntegrityField::bad_integrity))]
 fn bad_integrity(bytes: &[u8], kind: Kind, place: usize) -> bool
     requires { place + field_size ≤ length bytes.now }
     ensures { result ≡ bad_integrity bytes.now (told_kind kind) place }
