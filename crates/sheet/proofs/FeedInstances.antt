@@ -109,7 +109,7 @@ ten_advance = advance_is_take new_feed (take 10 M) (held_by (take 10 M) inside).
 abbrev cut_step : Step
 cut_step = record { beside = record { count = 10; standing = Refused Cut }; used = 0; found = Err Cut }
 
-closes_ten : Closes 10 Inside cut_step
+closes_ten : Closes ten_in.feed.beside cut_step
 unfolding ending
 closes_ten kept = refl
 
@@ -254,7 +254,7 @@ ends_ten = ends_computed.1
 pub ten_ends_inside : cut_ended ≡ record { feed = cut_feed; found = Err Cut }
 ten_ends_inside = end_inside ten_in.feed cut_ended ends_ten (lit< tt)
 
-pub the_end_is_kept : cut_feed.standing ≡ Refused Cut
+pub the_end_is_kept : cut_feed.beside.standing ≡ Refused Cut
 the_end_is_kept = end_is_kept ten_in.feed Cut cut_ended ends_ten refl
 
 -- ---- K11: C found in two streams

@@ -138,7 +138,7 @@ file = record_of M
 
 pub made_file_is_good : MadeGood M file
 made_file_is_good =
-    made_is_good M (replicate 512 0) file Made
+    made_is_good M (replicate 512 0) file (Ok tt)
     (sym (made_in 512), ap (λ (a : make.MakeAnswer). make.after_making a M (replicate 512 0)) (sym (made_in 512))) refl
 
 pub made_file_is_the_message : message_of (record_at file 0) ≡ M

@@ -7,6 +7,7 @@ use native.Mathlib.Omega.{arith}
 use Rattle.envelope.specs.Lateness.{lateness_of, AddressingDecides, LateStaysLate, InTimeUpToEntryAndTtl}
 use Rattle.envelope.specs.declared.fields.Envelope.{Envelope}
 use Rattle.envelope.specs.declared.fields.Integrity.TheVariants.{None}
+use Rattle.envelope.specs.declared.fields.Addressing.{Addressing}
 use Rattle.envelope.specs.declared.fields.Part.{Part}
 use Rattle.envelope.specs.declared.lateness.Lateness.{Lateness}
 use Rattle.envelope.specs.declared.lateness.Lateness.TheVariants.{Late, InTime}
@@ -16,12 +17,16 @@ use Rattle.envelope.proofs.LatenessLaws as laws
 abbrev end : ℕ → Part
 end place = record { place = place; size = 0 }
 
+-- TTL 20
+abbrev timed_to_live : Addressing
+timed_to_live = record { ttl = 20; qos = 0; source = end 21; destination = end 22 }
+
 -- a message of TTL 20 with such flags and such a time of its own
 abbrev timed : (flags time : ℕ) → Envelope
 timed flags time =
     record {
       header = record { message_type = 6000; version = 1; flags = flags; number = 1; time = time };
-      addressing = Some (record { ttl = 20; qos = 0; source = (end 21); destination = (end 22) });
+      addressing = Some timed_to_live;
       body = record { place = 23; size = 0 };
       integrity = None;
     }
@@ -46,8 +51,8 @@ in_time_up_to_entry_and_ttl = laws.in_time_up_to_entry_and_ttl
 
 pub in_time_at_120 : ◌≡◌ {A = Lateness} InTime InTime
 unfolding lateness_of
-in_time_at_120 = (in_time_up_to_entry_and_ttl (timed 1 1) 20 0 (end 21) (end 22) 100 120 InTime refl (omega arith) refl).0 (omega arith)
+in_time_at_120 = (in_time_up_to_entry_and_ttl (timed 1 1) timed_to_live 100 120 InTime refl (omega arith) refl).0 (omega arith)
 
 pub no_later_than_120 : 120 ≤ 100 + 20
 unfolding lateness_of
-no_later_than_120 = (in_time_up_to_entry_and_ttl (timed 1 1) 20 0 (end 21) (end 22) 100 120 InTime refl (omega arith) refl).1 refl
+no_later_than_120 = (in_time_up_to_entry_and_ttl (timed 1 1) timed_to_live 100 120 InTime refl (omega arith) refl).1 refl

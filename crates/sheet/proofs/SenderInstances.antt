@@ -1,6 +1,6 @@
 -- No theorem about the sender is empty: for each a history or a run in which its hypotheses hold, computed, and what the theorem then says of it.
 -- The history is that of the cases: 7 fails, 8 is acknowledged, 7 is used again and is in flight, 9 waits.
-use Rattle.std.specs.Prelude.{Ok, Err, Some, None}
+use Rattle.std.specs.Prelude.{Result, Ok, Err, Some, None}
 use Prim.Native.Nat.{ℕ, zero, suc, ◌+◌, ◌≤◌, ◌<◌}
 use mathlib.Core.Bool.{true, false}
 use mathlib.Core.List.{List, [], ◌∷◌, ◌++◌}
@@ -19,6 +19,7 @@ use Rattle.sender.specs.Sends.{sends, AllSent}
 use Rattle.sender.specs.Told.{queue_of, stored, state_of, Starts, Answers}
 use Rattle.sender.specs.declared.bench.Answer.TheVariants.{Sent, Waits, Settled, Failed}
 use Rattle.sender.specs.declared.bench.Bench.{Bench}
+use Rattle.sender.specs.declared.refusal.Refusal.{Refusal}
 use Rattle.sender.specs.declared.refusal.Refusal.TheVariants.{Known, TooManyResends}
 use Rattle.sheet.specs.SenderCases.{asked, told, nearly_full, full}
 use Rattle.sheet.proofs.Apart.{apart}
@@ -98,7 +99,7 @@ known_is_71 = then_known 3 nearly_full (lit< tt) refl
 pub other_is_72 : (answering (time_out 3) full).reply ≡ refused (plainly 72)
 other_is_72 = (not_in_flight 3 full refl).2
 
-pub eleven_is_73 : Err TooManyResends ≡ Err TooManyResends
+pub eleven_is_73 : ◌≡◌ {A = Result Bench Refusal} (Err TooManyResends) (Err TooManyResends)
 eleven_is_73 = start_refuses 11 (Err TooManyResends) refl (lit< tt)
 
 -- 10 is the most, and no refusal answers it

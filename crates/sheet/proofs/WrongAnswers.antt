@@ -14,7 +14,7 @@ use Rattle.sum.specs.Vectors.{digits}
 use Rattle.sum.proofs.Computed.{vectors, crc32_computes}
 use Rattle.envelope.specs.Addresses.{bad_addresses}
 use Rattle.envelope.specs.Fields.{absent, refused_by, refusal_by}
-use Rattle.envelope.specs.Flags.{bad_flags, TellsTime, TellsEncryption, TellsCompression, TellsKind}
+use Rattle.envelope.specs.Flags.{bad_flags, TellsTime, TellsEncryption, TellsCompression, TellsKind, told_kind}
 use Rattle.envelope.specs.Heading.{announced, bad_variable_size, heading}
 use Rattle.envelope.specs.IntegrityField.{bad_integrity}
 use Rattle.envelope.specs.Lateness.{lateness_of, JudgesLateness}
@@ -31,6 +31,7 @@ use Rattle.envelope.specs.Writing.{WriteOutcome, written, writing, after_writing
 use Rattle.envelope.specs.declared.fields.Envelope.{Envelope}
 use Rattle.std.specs.Prelude as prelude
 use Rattle.envelope.specs.declared.fields.Header.{Header}
+use Rattle.envelope.specs.declared.fields.Kind.{Kind}
 use Rattle.envelope.specs.declared.writer.WriteFault.{WriteFault}
 use Rattle.envelope.specs.declared.fields.Integrity.TheVariants.{None}
 use Rattle.envelope.specs.declared.lateness.Lateness.TheVariants.{NoClock, Late, InTime}
@@ -243,11 +244,11 @@ compressed_is_not_always_no kept = true_is_not_false kept refl
 pub compressed_is_bit_2 : TellsCompression 2 true → ⊥
 compressed_is_bit_2 kept = true_is_not_false refl kept
 
-pub kind_is_not_left_in_its_place : TellsKind 8 8 → ⊥
-kind_is_not_left_in_its_place kept = apart 8 1 tt kept
+pub kind_is_not_left_in_its_place : (k : Kind) → told_kind k ≡ 8 → TellsKind 8 k → ⊥
+kind_is_not_left_in_its_place k wrong kept = apart 8 1 tt (sym wrong ∙ kept)
 
-pub kind_is_two_bits : TellsKind 0x20 4 → ⊥
-kind_is_two_bits kept = apart 4 0 tt kept
+pub kind_is_two_bits : (k : Kind) → told_kind k ≡ 4 → TellsKind 0x20 k → ⊥
+kind_is_two_bits k wrong kept = apart 4 0 tt (sym wrong ∙ kept)
 
 -- ---- qos::split: priority taken for class; all zero. qos::join: a number that does not fit run round; all refused
 

@@ -170,10 +170,10 @@ close_keeps_the_count r wrong kept =
 
 -- ---- held: half a message; none where there is one
 
-pub held_is_no_half_message : Holds (held_by (take 20 M) inside).kept 20 Inside (take 20 M) → ⊥
+pub held_is_no_half_message : Holds (held_by (take 20 M) inside).kept (record { count = 20; standing = Inside }) (take 20 M) → ⊥
 held_is_no_half_message kept = apart 20 0 tt (ap length kept)
 
-pub held_is_the_message : Holds (held_by M whole).kept 21 Whole [] → ⊥
+pub held_is_the_message : Holds (held_by M whole).kept (record { count = 21; standing = Whole }) [] → ⊥
 held_is_the_message kept = apart 0 21 tt (ap length kept)
 
 -- ---- the numbers of refusals: another's; one for all that reading gives; a place lost, and one that there is not

@@ -19,7 +19,7 @@ use Rattle.frame.specs.declared.unwrapper.Acknowledgment.{Acknowledgment}
 use Rattle.frame.specs.declared.unwrapper.DataMessage.{DataMessage}
 use Rattle.frame.specs.declared.refusal.Refusal.{Refusal as FrameRefusal}
 use Rattle.frame.specs.declared.refusal.Refusal.TheVariants.{TooShort, MessageRefused}
-use Rattle.frame.specs.declared.unwrapper.Unwrapped.TheVariants.{Data, Acknowledged, Refused}
+use Rattle.frame.specs.declared.unwrapper.Unwrapped.TheVariants.{Data, Acknowledged}
 use Rattle.sheet.proofs.Apart.{apart}
 use Rattle.sheet.proofs.FrameCases.{unwrap_cases, wrap_cases, first_cases}
 
@@ -44,34 +44,34 @@ answered (wrote n) = n
 answered (refused r) = 0
 
 -- an acknowledgment's own COMMID for the acknowledged one
-pub acknowledged_is_not_from_the_header : Unwraps reply (Acknowledged (record { commid = 9; acknowledged = 9 })) → ⊥
+pub acknowledged_is_not_from_the_header : Unwraps reply (Ok (Acknowledged (record { commid = 9; acknowledged = 9 }))) → ⊥
 acknowledged_is_not_from_the_header p = apart 9 0x01020304 tt (ap acknowledged_told (p ∙ unwrap_cases.acknowledged))
 
 -- no STX, another version, a negative acknowledgment, a length read with its lowest byte first, and a last byte that is no ETX, each taken as it stands
-pub stx_is_looked_at : (d : DataMessage) → Unwraps (set carrier 0 3) (Data d) → ⊥
+pub stx_is_looked_at : (d : DataMessage) → Unwraps (set carrier 0 3) (Ok (Data d)) → ⊥
 stx_is_looked_at d p = apart 0 62 tt (ap kind_told (p ∙ unwrap_cases.no_stx_lem))
 
-pub the_protocol_version_is_looked_at : (d : DataMessage) → Unwraps (set carrier 1 1) (Data d) → ⊥
+pub the_protocol_version_is_looked_at : (d : DataMessage) → Unwraps (set carrier 1 1) (Ok (Data d)) → ⊥
 the_protocol_version_is_looked_at d p = apart 0 63 tt (ap kind_told (p ∙ unwrap_cases.old_protocol))
 
-pub the_message_version_is_looked_at : (d : DataMessage) → Unwraps (set carrier 7 3) (Data d) → ⊥
+pub the_message_version_is_looked_at : (d : DataMessage) → Unwraps (set carrier 7 3) (Ok (Data d)) → ⊥
 the_message_version_is_looked_at d p = apart 0 63 tt (ap kind_told (p ∙ unwrap_cases.new_message))
 
-pub the_type_is_looked_at : (d : DataMessage) → Unwraps (set carrier 6 3) (Data d) → ⊥
+pub the_type_is_looked_at : (d : DataMessage) → Unwraps (set carrier 6 3) (Ok (Data d)) → ⊥
 the_type_is_looked_at d p = apart 0 64 tt (ap kind_told (p ∙ unwrap_cases.negative))
 
-pub length_is_big_endian : (d : DataMessage) → Unwraps (set (set carrier 11 0) 8 24) (Data d) → ⊥
+pub length_is_big_endian : (d : DataMessage) → Unwraps (set (set carrier 11 0) 8 24) (Ok (Data d)) → ⊥
 length_is_big_endian d p = apart 0 65 tt (ap kind_told (p ∙ unwrap_cases.little_endian))
 
-pub etx_is_looked_at : (d : DataMessage) → Unwraps (set carrier 36 2) (Data d) → ⊥
+pub etx_is_looked_at : (d : DataMessage) → Unwraps (set carrier 36 2) (Ok (Data d)) → ⊥
 etx_is_looked_at d p = apart 0 66 tt (ap kind_told (p ∙ unwrap_cases.no_etx_lem))
 
 -- an acknowledgment of five bytes
-pub an_acknowledgment_has_four_bytes : (a : Acknowledgment) → Unwraps (set (take 16 reply) 11 5 ++ (0 ∷ 3 ∷ [])) (Acknowledged a) → ⊥
+pub an_acknowledgment_has_four_bytes : (a : Acknowledgment) → Unwraps (set (take 16 reply) 11 5 ++ (0 ∷ 3 ∷ [])) (Ok (Acknowledged a)) → ⊥
 an_acknowledgment_has_four_bytes a p = apart 1 65 tt (ap kind_told (p ∙ unwrap_cases.five))
 
 -- a message's place counted from itself
-pub message_begins_behind_the_header : (e : Envelope) → Unwraps carrier (Data (record { commid = 0x01020304; message = record { place = 0; size = 24 }; envelope = e })) → ⊥
+pub message_begins_behind_the_header : (e : Envelope) → Unwraps carrier (Ok (Data (record { commid = 0x01020304; message = record { place = 0; size = 24 }; envelope = e }))) → ⊥
 message_begins_behind_the_header e p = apart 0 12 tt (ap place_told (p ∙ unwrap_cases.data_frame_lem))
 
 -- a frame with an empty body called too short

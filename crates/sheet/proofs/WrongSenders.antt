@@ -230,18 +230,18 @@ c_tells_failed_from_settled exit kept = apart 34360000512 34360197120 tt kept.0
 
 pub c_refusals_write_nothing : (r : ℕ) (exit : SenderLent) → get_or exit.numbers 1 0 ≡ 1 → AnswersForC (ack 8) lent7 r exit → ⊥
 unfolding acking
-c_refusals_write_nothing r after exit wrong kept = apart 1 2 tt (sym wrong ∙ ap (λ (l : SenderLent). get_or l.numbers 1 0) kept.1)
+c_refusals_write_nothing r exit wrong kept = apart 1 2 tt (sym wrong ∙ ap (λ (l : SenderLent). get_or l.numbers 1 0) kept.1)
 
 pub c_counts_those_that_wait : (r : ℕ) (exit : SenderLent) → get_or exit.numbers 1 0 ≡ 2 → AnswersForC (ack 7) lent7 r exit → ⊥
 unfolding acking
-c_counts_those_that_wait r after exit wrong kept = apart 2 1 tt (sym wrong ∙ ap (λ (l : SenderLent). get_or l.numbers 1 0) kept.1)
+c_counts_those_that_wait r exit wrong kept = apart 2 1 tt (sym wrong ∙ ap (λ (l : SenderLent). get_or l.numbers 1 0) kept.1)
 
 pub c_300_is_not_44 : (exit : List ℕ) → StartsForC 300 (0 ∷ 0 ∷ 0 ∷ 0 ∷ []) (word (slots 0 0 0 0)) exit → ⊥
 unfolding word
 c_300_is_not_44 exit kept = apart 0 73 tt kept.0
 
 pub c_starts_empty : (r : ℕ) (exit : List ℕ) → get_or exit 1 0 ≡ 4 → StartsForC 2 (9 ∷ 4 ∷ 9 ∷ 9 ∷ []) r exit → ⊥
-c_starts_empty r after exit wrong kept = apart 4 0 tt (sym wrong ∙ ap (λ (l : List ℕ). get_or l 1 0) kept.1)
+c_starts_empty r exit wrong kept = apart 4 0 tt (sym wrong ∙ ap (λ (l : List ℕ). get_or l 1 0) kept.1)
 
 pub c_waiting_leaves_out_the_one_in_flight : CountsWaitingForC lent7 (word (slots 0 0 3 0)) → ⊥
 unfolding word
