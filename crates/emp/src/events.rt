@@ -1,6 +1,6 @@
 // An event of the send side, out of a line of text: what happened, a blank, and a COMMID.
 // Rests on `console` for the words and the number.
-use console::decimal::{Decimal, decimal_of};
+use console::decimal::decimal_of;
 use console::table::{piece, pieces, row_named};
 
 const BLANK: u8 = b' ';
@@ -21,12 +21,12 @@ pub fn event_in(line: &[u8]) -> Event {
         return Event::Unknown;
     }
     match decimal_of(piece(line, BLANK, 1), LARGEST_COMMID) {
-        Decimal::Number(n) => event_named(
+        Some(n) => event_named(
             piece(line, BLANK, 0),
             (n % (LARGEST_COMMID + 1)) as u32,
             b"submit\nack\nnak\ntimeout\n",
         ),
-        Decimal::NotANumber => Event::Unknown,
+        None => Event::Unknown,
     }
 }
 

@@ -4,7 +4,7 @@ use crate::arguments::{BLANK, Given, NAMES, WORD, word_at};
 use crate::rows;
 use crate::status::Status;
 use crate::telling::{Manner, complain};
-use console::decimal::{Decimal, decimal_of};
+use console::decimal::decimal_of;
 use console::files::is_standard_input;
 use console::nearest::nearest;
 use console::table::{piece, pieces, row, row_named};
@@ -256,8 +256,8 @@ fn with_number(
     word: &[u8],
 ) -> Taken {
     match decimal_of(word, number_in(largest)) {
-        Decimal::Number(n) => numbered(before, n),
-        Decimal::NotANumber => {
+        Some(n) => numbered(before, n),
+        None => {
             complain(rt, rows::NOT_A_NUMBER, name, largest);
             wrong(before)
         }
@@ -265,10 +265,7 @@ fn with_number(
 }
 
 fn number_in(digits: &[u8]) -> u64 {
-    match decimal_of(digits, u64::MAX) {
-        Decimal::Number(n) => n,
-        Decimal::NotANumber => 0,
-    }
+    decimal_of(digits, u64::MAX).unwrap_or(0)
 }
 
 fn numbered(before: Taken, n: u64) -> Taken {

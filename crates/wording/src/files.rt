@@ -4,7 +4,7 @@ use crate::arguments::{WORD, word_at};
 use crate::rows;
 use crate::telling::{PAGE, SHOWN, complain};
 use console::errors;
-use console::files::{Content, take};
+use console::files::{TakeFault, take};
 use console::filling::fill;
 use std::io::{Error, Input};
 use std::rt::{Env, Files};
@@ -30,14 +30,14 @@ pub fn file_at(
     let mut word = [0u8; WORD];
     let name = word_at(rt, argument, &mut word);
     match take(rt, name, buffer) {
-        Content::Size(taken) => {
+        Ok(taken) => {
             if most < taken {
                 return too_large(rt, name);
             }
             File::Size(taken)
         }
-        Content::NotOpened(error) => failed(rt, 0, name, error),
-        Content::NotRead(error) => failed(rt, 1, name, error),
+        Err(TakeFault::NotOpened(error)) => failed(rt, 0, name, error),
+        Err(TakeFault::NotRead(error)) => failed(rt, 1, name, error),
     }
 }
 
