@@ -60,7 +60,7 @@ pub(crate) fn variable_size(bytes: &[u8]) -> Verdict
     }
     verdict(
         Envelope::VARIABLE_SIZE_PLACE,
-        bad_variable_size(size_in(bytes)),
+        bad_variable_size(usize::from(size_in(bytes))),
     )
 }
 
@@ -86,7 +86,7 @@ pub(crate) fn addresses(bytes: &[u8]) -> Verdict
     if bytes.len() < Envelope::HEADER_SIZE {
         return Verdict::NotJudged;
     }
-    let v = size_in(bytes);
+    let v = usize::from(size_in(bytes));
     let end = Envelope::HEADER_SIZE + v;
     if v < Envelope::SMALLEST_VARIABLE || Envelope::LARGEST_VARIABLE < v || bytes.len() < end {
         return Verdict::NotJudged;
@@ -184,12 +184,12 @@ fn kind_in(flags: u8) -> Kind
     }
 }
 
-// V. A byte, which is said too: the sums below then stay in bounds.
-fn size_in(bytes: &[u8]) -> usize
+// V.
+fn size_in(bytes: &[u8]) -> u8
     requires { header_size ≤ length bytes.now }
-    ensures { (result ≡ variable_size bytes.now) × (result < 256) }
+    ensures { result ≡ variable_size bytes.now }
 {
-    bytes[Envelope::VARIABLE_SIZE_PLACE] as usize
+    bytes[Envelope::VARIABLE_SIZE_PLACE]
 }
 
 // Where the integrity field should stand: 17 + V + D. That D is a u32 is all that the bound needs.
@@ -203,7 +203,7 @@ fn place_in(bytes: &[u8]) -> usize
         bytes[Envelope::DATA_LENGTH_PLACE + 1],
         bytes[Envelope::DATA_LENGTH_PLACE + 2],
     );
-    Envelope::HEADER_SIZE + size_in(bytes) + (d as usize)
+    Envelope::HEADER_SIZE + usize::from(size_in(bytes)) + d as usize
 }
 
 // How many bytes stand before the first zero.
