@@ -26,10 +26,9 @@ pub(crate) fn addressing_of(bytes: &[u8], v: usize) -> Result<Option<Addressing>
         return Ok(None);
     }
     let end = Envelope::HEADER_SIZE + v;
-    let sizes = sizes_of(&bytes[Envelope::ADDRESSES_PLACE..end]).ok_or(Refusal {
-        fault: Fault::BadAddresses,
-        place: Envelope::ADDRESSES_PLACE,
-    })?;
+    let sizes = sizes_of(&bytes[Envelope::ADDRESSES_PLACE..end]).ok_or(Fault::BadAddresses.at(
+        Envelope::ADDRESSES_PLACE,
+    ))?;
     Ok(Some(Addressing {
         ttl: two_at(bytes, Envelope::TTL_PLACE),
         qos: two_at(bytes, Envelope::QOS_PLACE),

@@ -25,9 +25,6 @@ pub(crate) fn integrity_of(bytes: &[u8], kind: Kind, place: usize) -> Result<Int
         Kind::Crc if held == sum::crc(&bytes[..place]) => Ok(Integrity::Crc(held)),
         // Rule 3 has refused a kind that is not assigned.
         Kind::Application | Kind::Unassigned => Ok(Integrity::Application(held)),
-        Kind::None | Kind::Crc => Err(Refusal {
-            fault: Fault::BadIntegrity,
-            place,
-        }),
+        Kind::None | Kind::Crc => Err(Fault::BadIntegrity.at(place)),
     }
 }

@@ -38,23 +38,27 @@ pub struct Refusal {
     pub place: usize,
 }
 
+impl Fault {
+    // Never inlined: of the two numbers of each refusal the compiler would make a constant in the archive.
+    #[inline(never)]
+    pub(crate) fn at(self, place: usize) -> Refusal
+        ensures { result ≡ record { fault = self; place = place } }
+    {
+        Refusal { fault: self, place }
+    }
+}
+
 // The rules in their order, and what the bytes say where none is broken.
 pub fn read(bytes: &[u8]) -> Result<Envelope, Refusal>
     ensures { Reads bytes.now result }
 {
     if bytes.len() < Envelope::LEAST_SIZE {
-        return Err(Refusal {
-            fault: Fault::TooShort,
-            place: bytes.len(),
-        });
+        return Err(Fault::TooShort.at(bytes.len()));
     }
     let header = bytes.first_chunk().unwrap();
     judge_heading(header)?;
     if announced_length(header) != bytes.len() {
-        return Err(Refusal {
-            fault: Fault::WrongLength,
-            place: Envelope::DATA_LENGTH_PLACE,
-        });
+        return Err(Fault::WrongLength.at(Envelope::DATA_LENGTH_PLACE));
     }
     let v = usize::from(header[Envelope::VARIABLE_SIZE_PLACE]);
     let addressing = addressing_of(bytes, v)?;
@@ -75,22 +79,13 @@ pub(crate) fn judge_heading(header: &[u8; Envelope::HEADER_SIZE]) -> Result<(), 
     ensures { told_heading result ≡ heading header.now }
 {
     if header[Envelope::VERSION_PLACE] != Envelope::HEADER_VERSION {
-        return Err(Refusal {
-            fault: Fault::WrongVersion,
-            place: Envelope::VERSION_PLACE,
-        });
+        return Err(Fault::WrongVersion.at(Envelope::VERSION_PLACE));
     }
     if flags::bad_flags(header[Envelope::FLAGS_PLACE]) {
-        return Err(Refusal {
-            fault: Fault::BadFlags,
-            place: Envelope::FLAGS_PLACE,
-        });
+        return Err(Fault::BadFlags.at(Envelope::FLAGS_PLACE));
     }
     if bad_variable_size(header[Envelope::VARIABLE_SIZE_PLACE]) {
-        return Err(Refusal {
-            fault: Fault::BadVariableSize,
-            place: Envelope::VARIABLE_SIZE_PLACE,
-        });
+        return Err(Fault::BadVariableSize.at(Envelope::VARIABLE_SIZE_PLACE));
     }
     Ok(())
 }

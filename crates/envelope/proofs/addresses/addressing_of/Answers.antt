@@ -1,5 +1,5 @@
 -- `addresses::addressing_of`: nothing where V is 0; else the region between TTL and QoS and the body is scanned, and its ends handed out.
-use Rattle.std.proofs.Common.{Option, not, ap, ◌∙◌, arith, eq-eqb, ne_eqb}
+use Rattle.std.proofs.Common.{Option, not, ap₂, ◌∙◌, arith, eq-eqb, ne_eqb}
 use Rattle.std.proofs.lemmas.Result.{err_from_is_err_and}
 use Rattle.std.specs.Option.{ok_or}
 use Rattle.envelope.proofs.AddressLaws.{lent, addresses_present, ends_found, Found}
@@ -21,7 +21,7 @@ rule_6 = record { fault = BadAddresses; place = addresses_place }
 at_ends : (c : In_ok-sizes) → Found c.args.bytes.now c.args.v c.in_ok-sizes.sizes.source c.in_ok-sizes.sizes.destination
 at_ends c =
     let region = lent c.args.bytes.now c.args.v in
-    let k = kept (not (two_addresses region)) rule_6 (sizes region) _ (c.in_ok-sizes.ensures.value ∙ ap (λ (o : Option Sizes). ok_or o rule_6) c.sizes_of.ensures) in
+    let k = kept (not (two_addresses region)) rule_6 (sizes region) _ (c.in_ok-sizes.ensures.value ∙ ap₂ (λ (o : Option Sizes) (r : Refusal). ok_or o r) c.sizes_of.ensures c.at.ensures) in
     ends_found c.args.bytes.now c.args.v _ (c.requires.1 c.if-v-eq0.false) k.0 k.1
 
 pub returns-then-v-eq0 : goal.returns-then-v-eq0
@@ -38,7 +38,7 @@ pub returns-in_err-sizes : goal.returns-in_err-sizes
 returns-in_err-sizes c =
     let p = err_from_is_err_and c.from_residual.result c.from_residual.ensures.1 in
     let region = lent c.args.bytes.now c.args.v in
-    let six = broken (not (two_addresses region)) _ rule_6 (sizes region) (c.in_err-sizes.ensures.value ∙ ap (λ (o : Option Sizes). ok_or o rule_6) c.sizes_of.ensures) in
+    let six = broken (not (two_addresses region)) _ rule_6 (sizes region) (c.in_err-sizes.ensures.value ∙ ap₂ (λ (o : Option Sizes) (r : Refusal). ok_or o r) c.sizes_of.ensures c.at.ensures) in
     rw (p.1, p.2, six.1, addresses_present c.args.bytes.now c.args.v (c.requires.1 c.if-v-eq0.false), six.0)
 
 pub overflow_add-result : goal.overflow_add-result

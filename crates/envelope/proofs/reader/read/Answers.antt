@@ -54,7 +54,7 @@ tried c h place =
 
 pub returns-then-bytes-lt-LEAST_SIZE : goal.returns-then-bytes-lt-LEAST_SIZE
 unfolding reading
-returns-then-bytes-lt-LEAST_SIZE c = rw (lt-ltb _ _ c.if-bytes-lt-LEAST_SIZE.true)
+returns-then-bytes-lt-LEAST_SIZE c = rw (c.at.ensures, lt-ltb _ _ c.if-bytes-lt-LEAST_SIZE.true)
 
 pub returns-in_err-judge_heading : goal.returns-in_err-judge_heading
 unfolding reading
@@ -69,7 +69,7 @@ returns-then-announced_length-bytes c =
     let at = goal.at.returns-then-announced_length-bytes c in
     let h = header at.After-unwrap-header in
     let five = ne_eqb _ _ (λ e. c.if-announced_length-bytes.true (c.announced_length.ensures ∙ h.announced ∙ e)) in
-    rw (whole at.In_ok-judge_heading h, five)
+    rw (c.at.ensures, whole at.In_ok-judge_heading h, five)
 
 pub addressing_of-requires : goal.addressing_of-requires
 addressing_of-requires c =
