@@ -1,6 +1,6 @@
 -- What a call of the feed uses of a piece, where it does not refuse: a byte at least, and no more than there is.
 -- Rests on the laws that `feed` exports.
-use Rattle.std.proofs.Common.{◌≡◌, ℕ, ◌<◌, ◌≤◌, List, length, sym, refl, ap, ◌∙◌, subst, arith}
+use Rattle.std.proofs.Common.{◌≡◌, ℕ, ◌<◌, ◌≤◌, List, length, sym, refl, ap, ◌∙◌, arith}
 use Rattle.feed.proofs.StandLaws.{refused_takes}
 use Rattle.feed.proofs.UseLaws.{uses_bytes, refusal_not_nothing}
 use Rattle.feed.specs.Feeding.{FeedOutcome, refused}
@@ -13,10 +13,6 @@ use Rattle.feed.specs.declared.step.Standing.{Standing}
 use Rattle.feed.specs.declared.step.Standing.TheVariants.{Inside, Whole, Refused}
 use Rattle.feed.specs.declared.step.Step.{Step}
 use Rattle.envelope.specs.declared.fields.Envelope.{Envelope}
-use Rattle.emp.specs.Watching.{Onward}
-use Rattle.emp.specs.declared.watching.Course.{Course}
-use Rattle.emp.specs.declared.watching.Course.TheVariants.{Going}
-use Rattle.emp.specs.declared.watching.Stream.{Stream}
 
 abbrev lent_feed : List ℕ → ℕ → Standing → Feed
 lent_feed kept count standing = record { kept = kept; count = count; standing = standing }
@@ -46,6 +42,3 @@ pub on_with_message : (kept exit : List ℕ) (count : ℕ) (s : Standing) (piece
     → (size : ℕ) (m : Envelope) → r.found ≡ Message size m → GetsOn r piece
 on_with_message kept exit count s piece r a some size m e =
     gets_on kept exit count s piece r a some (λ f z. let q : told_found (Message size m) ≡ refused f = ap told_found (sym e) ∙ z in let n : ◌≡◌ {A = ℕ} 0 1 = cc in omega arith)
-
-pub going_on : (lent : ℕ) (r : Course) (stream : Stream) (used : ℕ) → Onward lent r → r ≡ Going stream used → (0 < used) × (used ≤ lent)
-going_on lent r stream used o e = subst (Onward lent) e o
