@@ -2,12 +2,13 @@
 -- So a region splits into two addresses at one place at most, the one after its first zero.
 use Rattle.std.proofs.Common.{◌≡◌, ℕ, zero, suc, ◌+◌, ◌-◌, ◌<◌, ◌≤◌, Bool, true, false, cond, not, ◌&&◌, ◌||◌, eqb, leb, List, [], ◌∷◌, length, take, drop, sym, refl, ap, ◌∙◌, ⊎_elim, arith, length-drop, take-append-drop, length-take-le, take_all, eq-eqb, ne_eqb, eqb-true, le-leb, leb-true}
 use mathlib.Core.Bool.{or-true}
-use mathlib.Core.Option.{none, some}
+use Rattle.std.specs.Bool.{then_some}
 use borrow.Author.Tests.{eqb-false, not-false}
 use Rattle.envelope.specs.Addresses.{ends_in_its_only_zero, is_address, splits_at, splits_up_to, two_addresses, first_zero, source_size, destination_size, region_of, bad_addresses}
-use Rattle.envelope.specs.Helpers.{unless, Sizes, sizes}
+use Rattle.envelope.specs.Helpers.{unless, sizes}
 use Rattle.envelope.specs.Layout.{header_size, routing_size, smallest_variable, addresses_place, largest_address}
-use Rattle.envelope.proofs.BoolLaws.{both, either, is_false, same_test, missing, kept}
+use Rattle.envelope.specs.declared.addresses.Sizes.{Sizes}
+use Rattle.envelope.proofs.BoolLaws.{both, either, is_false, same_test}
 use Rattle.envelope.proofs.ZeroLaws.{zero_in_front, zero_of_front}
 
 -- ---- one address
@@ -115,6 +116,9 @@ not_two region f = is_false (two_addresses region) (λ e. f (two_scanned region 
 
 -- ---- as the code meets them
 
+abbrev found_sizes : ℕ → ℕ → Sizes
+found_sizes a b = record { source = a; destination = b }
+
 -- the second scan is of the part after the first zero
 pub destination_is : (region : List ℕ) (a b : ℕ) → a ≡ source_size region
     → b ≡ first_zero (take (length region - (a + 1)) (drop (a + 1) region)) → b ≡ destination_size region
@@ -122,8 +126,22 @@ unfolding destination_size
 destination_is region a b ea eb =
     rw (← ea) (rw (take_all (length region - (a + 1)) (drop (a + 1) region) (rw length-drop (omega arith))) at eb)
 
+-- two ends that are short enough are two addresses where they make up the region
+pub two_by_length : (region : List ℕ) (a b : ℕ) → a ≡ source_size region → a < largest_address
+    → b ≡ destination_size region → b < largest_address
+    → then_some (eqb (a + 1 + (b + 1)) (length region)) (found_sizes a b) ≡ unless (not (two_addresses region)) (sizes region)
+two_by_length region a b ea la eb lb = go (eqb (a + 1 + (b + 1)) (length region)) refl
+  where
+    go : (t : Bool) → eqb (a + 1 + (b + 1)) (length region) ≡ t → then_some t (found_sizes a b) ≡ unless (not (two_addresses region)) (sizes region)
+    go true e =
+        let w = eqb-true (a + 1 + (b + 1)) (length region) e in
+        rw (scanned_two region (record { source = omega arith; destination = omega arith; whole = omega arith }), ea, eb)
+    go false e =
+        let n = eqb-false (a + 1 + (b + 1)) (length region) e in
+        rw (not_two region (λ h. n (omega (arith, h.whole))))
+
 -- the part that is lent, from place 21 to the end of the variable header, is the region
-abbrev lent : List ℕ → ℕ → List ℕ
+abbrev pub lent : List ℕ → ℕ → List ℕ
 lent s v = take (header_size + v - addresses_place) (drop addresses_place s)
 
 lent_is : (s : List ℕ) (v : ℕ) → smallest_variable ≤ v → lent s v ≡ region_of s v
@@ -136,9 +154,6 @@ pub addresses_present : (s : List ℕ) (v : ℕ) → smallest_variable ≤ v →
 unfolding bad_addresses
 addresses_present s v h = rw (ne_eqb v 0 (λ z. omega arith), ← lent_is s v h)
 
-pub ends_refused : (s : List ℕ) (v : ℕ) → smallest_variable ≤ v → none ≡ unless (not (two_addresses (lent s v))) (sizes (lent s v)) → bad_addresses s v ≡ true
-ends_refused s v h e = addresses_present s v h ∙ missing (not (two_addresses (lent s v))) (sizes (lent s v)) e
-
 -- two sizes that were found: the rule is kept, and they are the definition's
 pub record Found (s : List ℕ) (v a b : ℕ) : Type 0 where
   pub good : bad_addresses s v ≡ false
@@ -146,16 +161,15 @@ pub record Found (s : List ℕ) (v a b : ℕ) : Type 0 where
   pub destination : b ≡ destination_size (region_of s v)
   pub small : a < largest_address
 
-pub ends_found : (s : List ℕ) (v a b : ℕ) → smallest_variable ≤ v
-    → some (record { source = a; destination = b }) ≡ unless (not (two_addresses (lent s v))) (sizes (lent s v)) → Found s v a b
-ends_found s v a b h e =
-    let k = kept (not (two_addresses (lent s v))) (sizes (lent s v)) (record { source = a; destination = b }) e in
+pub ends_found : (s : List ℕ) (v : ℕ) (found : Sizes) → smallest_variable ≤ v
+    → not (two_addresses (lent s v)) ≡ false → found ≡ sizes (lent s v) → Found s v found.source found.destination
+ends_found s v found h two same =
     let z = lent_is s v h in
-    let p : a ≡ source_size (lent s v) = ap (λ (x : Sizes). x.source) k.1 in
-    let q : b ≡ destination_size (lent s v) = ap (λ (x : Sizes). x.destination) k.1 in
-    let g = two_scanned (lent s v) (not-false _ k.0) in
+    let p : found.source ≡ source_size (lent s v) = ap (λ (x : Sizes). x.source) same in
+    let q : found.destination ≡ destination_size (lent s v) = ap (λ (x : Sizes). x.destination) same in
+    let g = two_scanned (lent s v) (not-false _ two) in
     record {
-      good = addresses_present s v h ∙ k.0;
+      good = addresses_present s v h ∙ two;
       source = p ∙ ap source_size z;
       destination = q ∙ ap destination_size z;
       small = omega (arith, g.source);

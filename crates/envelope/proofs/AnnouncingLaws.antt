@@ -1,6 +1,6 @@
 -- What an announcement says of its message: it rests on the first 17 bytes alone, and an accepted message announces its own length.
 -- What announces its own length is accepted, or refused as 6 or 7. The layer that takes messages in parts cites these laws.
-use Rattle.std.proofs.Common.{◌≡◌, ℕ, ◌<◌, ◌≤◌, Bool, true, false, cond, ltb, List, ◌++◌, length, take, sym, refl, ap, ◌∙◌, ap₂, arith, length-append, ltb-false, ltb-true, le-ltb, lt-ltb}
+use Rattle.std.proofs.Common.{◌≡◌, ℕ, ◌<◌, ◌≤◌, Bool, true, false, cond, ltb, List, ◌++◌, length, take, Option, Some, None, Result, Ok, Err, sym, refl, ap, ◌∙◌, ap₂, arith, length-append, ltb-false, ltb-true, le-ltb, lt-ltb}
 use lib.Seq.{take-append-le}
 use Rattle.sum.specs.Promise.{Only₁}
 use Rattle.envelope.specs.Announcing.{AnnouncementAnswer, unfinished, refused, announces, announced_by, announcing, told_announcement, Announces}
@@ -10,8 +10,7 @@ use Rattle.envelope.specs.Heading.{flags_of, variable_size, announced, wrong_ver
 use Rattle.envelope.specs.Heading as judged
 use Rattle.envelope.specs.Layout.{version_place, flags_place, variable_size_place, header_size, least_size}
 use Rattle.envelope.specs.Reading.{reading}
-use Rattle.envelope.specs.declared.announcer.Announcement.{Announcement}
-use Rattle.envelope.specs.declared.announcer.Announcement.TheVariants as code
+use Rattle.envelope.specs.declared.reader.Refusal.{Refusal as CodeRefusal}
 use Rattle.envelope.proofs.HeadingLaws.{announced_is, announced_by_heading, heading_by_heading, passed_heading}
 use Rattle.envelope.proofs.OnlyLaws.{only_by_telling, untold_refusal, untold_refusal_lem}
 use Rattle.envelope.proofs.ReadingLaws.{good, Completed, completed}
@@ -121,15 +120,15 @@ refused_heading s r e = go (ltb (length s) header_size) refl
 
 -- ---- one answer alone keeps the promise
 
-abbrev untold_announcement : AnnouncementAnswer → Announcement
-untold_announcement unfinished = code.Unfinished
-untold_announcement (refused r) = code.Refused (untold_refusal r)
-untold_announcement (announces n) = code.Length n
+abbrev untold_announcement : AnnouncementAnswer → Result (Option ℕ) CodeRefusal
+untold_announcement unfinished = Ok None
+untold_announcement (refused r) = Err (untold_refusal r)
+untold_announcement (announces n) = Ok (Some n)
 
-untold_announcement_lem : (r : Announcement) → untold_announcement (told_announcement r) ≡ r
-untold_announcement_lem code.Unfinished = refl
-untold_announcement_lem (code.Refused r) = ap code.Refused (untold_refusal_lem r)
-untold_announcement_lem (code.Length n) = refl
+untold_announcement_lem : (r : Result (Option ℕ) CodeRefusal) → untold_announcement (told_announcement r) ≡ r
+untold_announcement_lem (Ok None) = refl
+untold_announcement_lem (Ok (Some n)) = refl
+untold_announcement_lem (Err r) = ap Err (untold_refusal_lem r)
 
 pub only_announces : (bytes : List ℕ) → Only₁ (Announces bytes)
 only_announces bytes = only_by_telling told_announcement untold_announcement untold_announcement_lem (announcing bytes)

@@ -1,9 +1,8 @@
--- Tests as facts: what a Bool that is put together says of its parts, and what an answer that may be missing says of its rule.
+-- Tests as facts: what a Bool that is put together says of its parts, and what an answer that may be refused says of its rule.
 -- Beside the library's `borrow.Author.Tests`.
-use Rattle.std.proofs.Common.{◌≡◌, ℕ, Bool, true, false, cond, ◌&&◌, ◌||◌, eqb, ◌⊎◌, refl, inl, inr, arith, eq-eqb, ne_eqb, eqb-true}
-use mathlib.Core.Option.{none, some}
+use Rattle.std.proofs.Common.{◌≡◌, ℕ, Bool, true, false, cond, ◌&&◌, ◌||◌, eqb, ◌⊎◌, Ok, Err, refl, inl, inr, arith, eq-eqb, ne_eqb, eqb-true}
 use borrow.Author.Tests.{eqb-false}
-use Rattle.envelope.specs.Helpers.{unless}
+use Rattle.envelope.specs.Helpers.{unless_refused}
 
 pub both : (a b : Bool) → (a && b) ≡ true → (a ≡ true) × (b ≡ true)
 both true b e = (refl, e)
@@ -42,11 +41,11 @@ same_test a b c d there back = go (eqb c d) refl
     go true e = eq-eqb a b (back (eqb-true c d e))
     go false e = ne_eqb a b (λ p. eqb-false c d e (there p))
 
--- an answer that is missing, and one that is there
-pub missing : {A : Type 0} (b : Bool) (x : A) → none ≡ unless b x → b ≡ true
-missing true x e = refl
-missing false x e = cc
+-- an answer that is refused, and one that is not
+pub broken : {A R : Type 0} (b : Bool) (q r : R) (x : A) → Err q ≡ unless_refused b r x → (b ≡ true) × (q ≡ r)
+broken true q r x e = (refl, cc)
+broken false q r x e = (cc, cc)
 
-pub kept : {A : Type 0} (b : Bool) (x y : A) → some y ≡ unless b x → (b ≡ false) × (y ≡ x)
-kept true x y e = (cc, cc)
-kept false x y e = (refl, cc)
+pub kept : {A R : Type 0} (b : Bool) (r : R) (x y : A) → Ok y ≡ unless_refused b r x → (b ≡ false) × (y ≡ x)
+kept true r x y e = (cc, cc)
+kept false r x y e = (refl, cc)

@@ -1,6 +1,6 @@
--- What decides lateness, and how it goes on with the clock, as specs/Lateness states it; and the sum compared by subtraction.
+-- What decides lateness, and how it goes on with the clock, as specs/Lateness states it.
 -- The first by the "only" theorem, the others by the two tests of the definition.
-use Rattle.std.proofs.Common.{◌≡◌, ℕ, ◌+◌, ◌-◌, ◌≤◌, Bool, true, false, cond, eqb, ltb, sym, refl, ap, ◌∙◌, arith, ltb-false, ltb-true, le-ltb, lt-ltb, ne_eqb}
+use Rattle.std.proofs.Common.{◌≡◌, ℕ, ◌+◌, ◌≤◌, Bool, true, false, cond, eqb, Option, sym, refl, ap, ◌∙◌, arith, ltb-false, ltb-true, le-ltb, lt-ltb, ne_eqb}
 use Rattle.envelope.specs.Fields.{AddressingFields, absent, present}
 use Rattle.envelope.specs.Lateness.{no_clock, late, in_time, late_after, lateness_of, told_lateness, AddressingDecides, LateStaysLate, InTimeUpToEntryAndTtl}
 use Rattle.envelope.specs.Told.{told_addressing}
@@ -8,17 +8,9 @@ use Rattle.envelope.specs.declared.fields.Addressing.{Addressing}
 use Rattle.envelope.specs.declared.lateness.Lateness.TheVariants.{Late, InTime}
 use Rattle.envelope.proofs.OnlyLaws.{only_judges_lateness}
 
--- a clock that is not before the entry is past entry and TTL together exactly where what is between the two is more than the TTL
-pub by_subtraction : (entry ttl clock : ℕ) → entry ≤ clock → ltb ttl (clock - entry) ≡ late_after entry ttl clock
-by_subtraction entry ttl clock h = from_test (late_after entry ttl clock) refl
-  where
-    from_test : (past : Bool) → late_after entry ttl clock ≡ past → ltb ttl (clock - entry) ≡ past
-    from_test true e = lt-ltb ttl (clock - entry) (omega (arith, ltb-true (entry + ttl) clock e))
-    from_test false e = le-ltb ttl (clock - entry) (omega (arith, ltb-false (entry + ttl) clock e))
-
 pub addressing_decides : AddressingDecides
 addressing_decides d e entry clock r s same first second =
-    only_judges_lateness e entry clock r s (first ∙ ap (λ (a : Addressing). lateness_of (told_addressing a) entry clock) same) second
+    only_judges_lateness e entry clock r s (first ∙ ap (λ (a : Option Addressing). lateness_of (told_addressing a) entry clock) same) second
 
 -- what the two tests say where the answer is late, and where it is in time
 late_means : (blank past : Bool) → cond blank no_clock (cond past late in_time) ≡ late → (blank ≡ false) × (past ≡ true)
@@ -44,8 +36,8 @@ late_stays_late e entry clock later s first h second =
 
 pub in_time_up_to_entry_and_ttl : InTimeUpToEntryAndTtl
 unfolding lateness_of
-in_time_up_to_entry_and_ttl e ttl qos source destination entry clock r held some kept =
-    let there = ap (λ (a : Addressing). lateness_of (told_addressing a) entry clock) held in (
-      λ h. only_judges_lateness e entry clock r InTime kept (sym (there ∙ rw (ne_eqb ttl 0 (λ z. omega (arith, z, some)), le-ltb (entry + ttl) clock h))),
-      λ i. ltb-false (entry + ttl) clock (in_time_means (eqb ttl 0) (late_after entry ttl clock) (sym there ∙ sym kept ∙ ap told_lateness i)),
+in_time_up_to_entry_and_ttl e a entry clock r held some kept =
+    let there = ap (λ (x : Option Addressing). lateness_of (told_addressing x) entry clock) held in (
+      λ h. only_judges_lateness e entry clock r InTime kept (sym (there ∙ rw (ne_eqb a.ttl 0 (λ z. omega (arith, z, some)), le-ltb (entry + a.ttl) clock h))),
+      λ i. ltb-false (entry + a.ttl) clock (in_time_means (eqb a.ttl 0) (late_after entry a.ttl clock) (sym there ∙ sym kept ∙ ap told_lateness i)),
     )

@@ -1,11 +1,11 @@
 -- One answer alone keeps each promise: what a function is told as can be told back.
 -- `untold` undoes `told`, case by case.
-use Rattle.std.proofs.Common.{◌≡◌, ℕ, zero, suc, ◌-◌, List, length, sym, refl, ap, ◌∙◌}
+use Rattle.std.proofs.Common.{◌≡◌, ℕ, zero, suc, ◌-◌, List, length, Option, Some, None, Result, Ok, Err, sym, refl, ap, ◌∙◌}
 pub use Rattle.sum.proofs.Laws.{only_by_telling}
 use Rattle.sum.specs.Promise.{Only₁}
 use Rattle.envelope.specs.Fields.{Span, HeaderFields, AddressingFields, absent, present, IntegrityFields, none, crc, application, Fields, Answer, accepted, refused}
 use Rattle.envelope.specs.Fields as paper
-use Rattle.envelope.specs.Flags.{TellsTime, TellsEncryption, TellsCompression, TellsKind}
+use Rattle.envelope.specs.Flags.{kind_of, TellsTime, TellsEncryption, TellsCompression, told_kind, TellsKind, NumbersKind}
 use Rattle.envelope.specs.Lateness.{LatenessAnswer, no_clock, late, in_time, lateness, told_lateness, JudgesLateness}
 use Rattle.envelope.specs.Message.{Given}
 use Rattle.envelope.specs.Numbers.{TwoBytes, ThreeBytes, FourBytes, TwoDigits, FourDigits}
@@ -23,29 +23,24 @@ use Rattle.envelope.specs.Writing.{WriteAnswer, wrote, refused, answer_to_writin
 use Rattle.envelope.specs.declared.fields.Part.{Part}
 use Rattle.envelope.specs.declared.fields.Header.{Header}
 use Rattle.envelope.specs.declared.fields.Addressing.{Addressing}
-use Rattle.envelope.specs.declared.fields.Addressing.TheVariants.{Absent, Present}
 use Rattle.envelope.specs.declared.fields.Integrity.{Integrity}
-use Rattle.envelope.specs.declared.fields.Integrity.TheVariants.{None, Crc, Application}
+use Rattle.envelope.specs.declared.fields.Integrity.TheVariants as held
 use Rattle.envelope.specs.declared.fields.Envelope.{Envelope}
 use Rattle.envelope.specs.declared.lateness.Lateness.{Lateness}
 use Rattle.envelope.specs.declared.lateness.Lateness.TheVariants.{NoClock, Late, InTime}
 use Rattle.envelope.specs.declared.qos.Qos.{Qos}
-use Rattle.envelope.specs.declared.qos.Joining.{Joining}
-use Rattle.envelope.specs.declared.qos.Joining.TheVariants.{Joined, DoesNotFit}
 use Rattle.envelope.specs.declared.reader.Fault.{Fault}
 use Rattle.envelope.specs.declared.reader.Fault.TheVariants.{TooShort, WrongVersion, BadFlags, BadVariableSize, WrongLength, BadAddresses, BadIntegrity}
-use Rattle.envelope.specs.declared.reader.Reading.{Reading}
-use Rattle.envelope.specs.declared.reader.Reading.TheVariants.{Accepted, Refused}
+use Rattle.envelope.specs.declared.fields.Kind.{Kind}
+use Rattle.envelope.specs.declared.fields.Kind.TheVariants as kind
 use Rattle.envelope.specs.declared.reader.Refusal.{Refusal}
 use Rattle.envelope.specs.declared.refusals.Numbers.{Numbers}
 use Rattle.envelope.specs.declared.sequence.Sequence.{Sequence}
 use Rattle.envelope.specs.declared.sequence.Sequence.TheVariants.{Repeat, Next, Ahead, Behind}
-use Rattle.envelope.specs.declared.rewriter.Rewriting.{Rewriting}
-use Rattle.envelope.specs.declared.rewriter.Rewriting.TheVariants as again
+use Rattle.envelope.specs.declared.rewriter.RewriteFault.{RewriteFault}
+use Rattle.envelope.specs.declared.rewriter.RewriteFault.TheVariants as again
 use Rattle.envelope.specs.declared.writer.WriteFault.{WriteFault}
 use Rattle.envelope.specs.declared.writer.WriteFault.TheVariants.{BadFlags as NoFlags, BadAddresses as NoEnds, BodyTooLong, StrayIntegrity, NoRoom}
-use Rattle.envelope.specs.declared.writer.Writing.{Writing}
-use Rattle.envelope.specs.declared.writer.Writing.TheVariants.{Written, Refused as WriteRefused}
 
 -- ---- reading
 
@@ -101,23 +96,24 @@ untold_header h =
       time = h.time;
     }
 
-abbrev untold_addressing : AddressingFields → Addressing
-untold_addressing absent = Absent
-untold_addressing (present ttl qos source destination) = Present ttl qos (untold_part source) (untold_part destination)
+abbrev untold_addressing : AddressingFields → Option Addressing
+untold_addressing absent = None
+untold_addressing (present ttl qos source destination) =
+    Some (record { ttl = ttl; qos = qos; source = untold_part source; destination = untold_part destination })
 
-untold_addressing_lem : (a : Addressing) → untold_addressing (told_addressing a) ≡ a
-untold_addressing_lem Absent = refl
-untold_addressing_lem (Present ttl qos source destination) = refl
+untold_addressing_lem : (a : Option Addressing) → untold_addressing (told_addressing a) ≡ a
+untold_addressing_lem None = refl
+untold_addressing_lem (Some a) = refl
 
 abbrev untold_integrity : IntegrityFields → Integrity
-untold_integrity none = None
-untold_integrity (crc held) = Crc held
-untold_integrity (application held) = Application held
+untold_integrity none = held.None
+untold_integrity (crc n) = held.Crc n
+untold_integrity (application n) = held.Application n
 
 untold_integrity_lem : (i : Integrity) → untold_integrity (told_integrity i) ≡ i
-untold_integrity_lem None = refl
-untold_integrity_lem (Crc held) = refl
-untold_integrity_lem (Application held) = refl
+untold_integrity_lem held.None = refl
+untold_integrity_lem (held.Crc n) = refl
+untold_integrity_lem (held.Application n) = refl
 
 abbrev pub untold_envelope : Fields → Envelope
 untold_envelope f =
@@ -137,20 +133,20 @@ untold_envelope_lem e = λ i.
       integrity = untold_integrity_lem e.integrity i;
     }
 
-abbrev untold : Answer → Reading
-untold (accepted f) = Accepted (untold_envelope f)
-untold (refused r) = Refused (untold_refusal r)
+abbrev untold : Answer → Result Envelope Refusal
+untold (accepted f) = Ok (untold_envelope f)
+untold (refused r) = Err (untold_refusal r)
 
-untold_told : (r : Reading) → untold (told r) ≡ r
-untold_told (Accepted e) = ap Accepted (untold_envelope_lem e)
-untold_told (Refused r) = ap Refused (untold_refusal_lem r)
+untold_told : (r : Result Envelope Refusal) → untold (told r) ≡ r
+untold_told (Ok e) = ap Ok (untold_envelope_lem e)
+untold_told (Err r) = ap Err (untold_refusal_lem r)
 
 pub only_reads : (bytes : List ℕ) → Only₁ (Reads bytes)
 only_reads bytes = only_by_telling told untold untold_told (reading bytes)
 
 -- ---- the envelope's constructor, and numbers by value
 
-pub only_holds : (header : Header) (addressing : Addressing) (body : Part) (integrity : Integrity)
+pub only_holds : (header : Header) (addressing : Option Addressing) (body : Part) (integrity : Integrity)
     → Only₁ (Holds header addressing body integrity)
 only_holds header addressing body integrity a b p q = p ∙ sym q
 
@@ -180,8 +176,23 @@ only_tells_encryption flags x y p q = p ∙ sym q
 pub only_tells_compression : (flags : ℕ) → Only₁ (TellsCompression flags)
 only_tells_compression flags x y p q = p ∙ sym q
 
+abbrev untold_kind : ℕ → Kind
+untold_kind zero = kind.None
+untold_kind (suc zero) = kind.Crc
+untold_kind (suc (suc zero)) = kind.Application
+untold_kind (suc (suc (suc n))) = kind.Unassigned
+
+untold_kind_lem : (k : Kind) → untold_kind (told_kind k) ≡ k
+untold_kind_lem kind.None = refl
+untold_kind_lem kind.Crc = refl
+untold_kind_lem kind.Application = refl
+untold_kind_lem kind.Unassigned = refl
+
 pub only_tells_kind : (flags : ℕ) → Only₁ (TellsKind flags)
-only_tells_kind flags x y p q = p ∙ sym q
+only_tells_kind flags = only_by_telling told_kind untold_kind untold_kind_lem (kind_of flags)
+
+pub only_numbers_kind : (k : Kind) → Only₁ (NumbersKind k)
+only_numbers_kind k a b p q = p ∙ sym q
 
 -- ---- QoS
 
@@ -198,13 +209,13 @@ untold_qos f =
 pub only_splits : (q : ℕ) → Only₁ (Splits q)
 only_splits q = only_by_telling told_qos untold_qos (λ r. refl) (splitting q)
 
-abbrev untold_joining : QosAnswer → Joining
-untold_joining (qos.joined q) = Joined q
-untold_joining (qos.refused n) = DoesNotFit
+abbrev untold_joining : QosAnswer → Option ℕ
+untold_joining (qos.joined q) = Some q
+untold_joining (qos.refused n) = None
 
-untold_joining_lem : (r : Joining) → untold_joining (told_joining r) ≡ r
-untold_joining_lem (Joined q) = refl
-untold_joining_lem DoesNotFit = refl
+untold_joining_lem : (r : Option ℕ) → untold_joining (told_joining r) ≡ r
+untold_joining_lem (Some q) = refl
+untold_joining_lem None = refl
 
 pub only_joins : (q : Qos) → Only₁ (Joins q)
 only_joins q = only_by_telling told_joining untold_joining untold_joining_lem (joining (told_qos q))
@@ -268,27 +279,27 @@ untold_write_fault_lem NoRoom = refl
 pub only_numbers_write_fault : (f : WriteFault) → Only₁ (NumbersWriteFault f)
 only_numbers_write_fault f a b p q = p ∙ sym q
 
-abbrev untold_writing : WriteAnswer → Writing
-untold_writing (wrote n) = Written n
-untold_writing (refused n) = WriteRefused (untold_write_fault (n - 11))
+abbrev untold_writing : WriteAnswer → Result ℕ WriteFault
+untold_writing (wrote n) = Ok n
+untold_writing (refused n) = Err (untold_write_fault (n - 11))
 
-untold_writing_lem : (r : Writing) → untold_writing (told_writing r) ≡ r
-untold_writing_lem (Written n) = refl
-untold_writing_lem (WriteRefused f) = ap WriteRefused (untold_write_fault_lem f)
+untold_writing_lem : (r : Result ℕ WriteFault) → untold_writing (told_writing r) ≡ r
+untold_writing_lem (Ok n) = refl
+untold_writing_lem (Err f) = ap Err (untold_write_fault_lem f)
 
 pub only_writes : (g : Given) (entry : List ℕ) → Only₂ (Writes g entry)
 only_writes g entry a b x y p q =
     (only_by_telling told_writing untold_writing untold_writing_lem (answer_to_writing (writing g (length entry))) a b p.0 q.0, p.1 ∙ sym q.1)
 
-abbrev untold_rewriting : RewriteAnswer → Rewriting
-untold_rewriting (rewriting.rewrote n) = again.Written n
-untold_rewriting (rewriting.refused r) = again.Refused (untold_refusal r)
-untold_rewriting rewriting.no_room = again.NoRoom
+abbrev untold_rewriting : RewriteAnswer → Result ℕ RewriteFault
+untold_rewriting (rewriting.rewrote n) = Ok n
+untold_rewriting (rewriting.refused r) = Err (again.Refused (untold_refusal r))
+untold_rewriting rewriting.no_room = Err again.NoRoom
 
-untold_rewriting_lem : (r : Rewriting) → untold_rewriting (told_rewriting r) ≡ r
-untold_rewriting_lem (again.Written n) = refl
-untold_rewriting_lem (again.Refused r) = ap again.Refused (untold_refusal_lem r)
-untold_rewriting_lem again.NoRoom = refl
+untold_rewriting_lem : (r : Result ℕ RewriteFault) → untold_rewriting (told_rewriting r) ≡ r
+untold_rewriting_lem (Ok n) = refl
+untold_rewriting_lem (Err (again.Refused r)) = ap (λ (x : Refusal). Err (again.Refused x)) (untold_refusal_lem r)
+untold_rewriting_lem (Err again.NoRoom) = refl
 
 pub only_rewrites : (s entry : List ℕ) → Only₂ (Rewrites s entry)
 only_rewrites s entry a b x y p q =

@@ -1,6 +1,7 @@
 -- Splitting and joining a QoS field are inverse, both ways round.
 -- Each is a fact about division by the place of a number's lowest bit.
-use Rattle.std.proofs.Common.{◌≡◌, ℕ, ◌+◌, ◌*◌, ◌/◌, ◌%◌, ◌<◌, Bool, true, false, cond, ltb, refl, ap, ◌∙◌, arith, ltb-true, lt-ltb}
+use Rattle.std.proofs.Common.{◌≡◌, ℕ, ◌+◌, ◌*◌, ◌/◌, ◌%◌, ◌^◌, ◌<◌, Bool, true, false, cond, ltb, bit_or, refl, ap, ◌∙◌, arith, ltb-true, lt-ltb}
+use Rattle.std.proofs.lemmas.Nat.{or_shifted}
 use Rattle.envelope.specs.Qos.{splitting, fits_its_bits, joined, refused, joining, JoinsWhatWasSplit, SplitsWhatWasJoined}
 use Rattle.envelope.proofs.BoolLaws.{both}
 
@@ -57,3 +58,27 @@ splits_what_was_joined f q e =
     let t = both (ltb f.priority 8) (ltb f.class 8) s.1 in
     ap splitting m.1
     ∙ apart f.service_request f.special_handling f.network_preference f.priority f.class (ltb-true _ _ p.0) (ltb-true _ _ r.0) (ltb-true _ _ s.0) (ltb-true _ _ t.0) (ltb-true _ _ t.1)
+
+-- ---- the five numbers, each moved to its bits: none of them meets another
+
+or_above : (a k x y : ℕ) → x ≡ a * 2 ^ k → y < 2 ^ k → bit_or x y ≡ x + y
+or_above a k x y e h = rw e (or_shifted a k y h)
+
+pub in_their_bits : (s h n p c : ℕ) → s < 8 → h < 16 → n < 8 → p < 8 → c < 8
+    → bit_or (bit_or (bit_or (bit_or (s * 8192 % 65536) (h * 512 % 65536)) (n * 64 % 65536)) (p * 8 % 65536)) c
+    ≡ s * 8192 + h * 512 + n * 64 + p * 8 + c
+in_their_bits s h n p c ls lh ln lp lc =
+    let ms : s * 8192 % 65536 ≡ s * 8192 = omega arith in
+    let mh : h * 512 % 65536 ≡ h * 512 = omega arith in
+    let mn : n * 64 % 65536 ≡ n * 64 = omega arith in
+    let mp : p * 8 % 65536 ≡ p * 8 = omega arith in
+    rw (
+      ms,
+      mh,
+      mn,
+      mp,
+      or_above s 13 (s * 8192) (h * 512) refl (omega arith),
+      or_above (s * 16 + h) 9 (s * 8192 + h * 512) (n * 64) (omega arith) (omega arith),
+      or_above (s * 128 + h * 8 + n) 6 (s * 8192 + h * 512 + n * 64) (p * 8) (omega arith) (omega arith),
+      or_above (s * 1024 + h * 64 + n * 8 + p) 3 (s * 8192 + h * 512 + n * 64 + p * 8) c (omega arith) (omega arith),
+    )

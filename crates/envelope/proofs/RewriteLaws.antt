@@ -1,42 +1,22 @@
 -- Rewriting: what is lent to `write` is what reading handed out, and so the outcome is the bytes themselves or 15.
 -- Rests on the second round trip.
-use Rattle.std.proofs.Common.{◌≡◌, ℕ, ◌≤◌, Bool, true, false, cond, ltb, List, [], length, sym, refl, ap, ◌∙◌, subst, arith}
+use Rattle.std.proofs.Common.{◌≡◌, ℕ, ◌≤◌, Bool, true, false, cond, ltb, List, length, Result, Ok, Err, sym, refl, ap, ◌∙◌, arith}
+use Rattle.std.specs.Result.{MatchResult}
 use Rattle.sum.specs.Detection.{Bytes}
-use Rattle.envelope.specs.Fields.{Fields, Answer, accepted, part_of}
+use Rattle.envelope.specs.Fields.{Fields, Answer, accepted}
 use Rattle.envelope.specs.Fields as fields
 use Rattle.envelope.specs.Layout.{largest_message}
-use Rattle.envelope.specs.Message.{Given}
 use Rattle.envelope.specs.Reading.{reading}
 use Rattle.envelope.specs.Rewriting.{RewriteAnswer, rewrote, refused, rewriting_read, rewriting, after_rewriting, rewrote_length, RewritesNoLonger, rewrite_place, RewritePointsWithin, RewritePassesOn, no_room, told_rewriting, RefusedRewriteWritesNothing}
-use Rattle.envelope.specs.RoundTrips.{application_number, given_by}
-use Rattle.envelope.specs.Told.{told_part, told_integrity, told_envelope}
-use Rattle.envelope.specs.Writing.{WriteOutcome, written, refused, writing, after_writing, wrote, answer_to_writing, given, Writes}
+use Rattle.envelope.specs.RoundTrips.{given_by}
+use Rattle.envelope.specs.Writing.{WriteOutcome, written, refused, writing, after_writing, wrote, answer_to_writing, told_writing}
 use Rattle.envelope.specs.Writing as write
-use Rattle.envelope.specs.declared.fields.Addressing.TheVariants.{Absent, Present}
-use Rattle.envelope.specs.declared.fields.Envelope.{Envelope}
-use Rattle.envelope.specs.declared.fields.Part.{Part}
-use Rattle.envelope.specs.declared.writer.Routing.TheVariants as routing
-use Rattle.envelope.specs.declared.writer.Writing.{Writing}
+use Rattle.envelope.specs.declared.rewriter.RewriteFault.{RewriteFault}
+use Rattle.envelope.specs.declared.rewriter.RewriteFault.TheVariants.{NoRoom}
+use Rattle.envelope.specs.declared.writer.WriteFault.{WriteFault}
 use Rattle.envelope.proofs.PlaceLaws.{places_within}
 use Rattle.envelope.proofs.ReadingLaws.{accepted_most}
 use Rattle.envelope.proofs.RoundTripLaws.{written_again}
-
--- ---- what is lent is what was handed out
-
-pub again_absent : (s : List ℕ) (e : Envelope) (body : List ℕ) (n : ℕ) → e.addressing ≡ Absent
-    → body ≡ part_of s (told_part e.body) → n ≡ application_number (told_integrity e.integrity)
-    → given e.header routing.Absent [] [] body n ≡ given_by s (told_envelope e)
-again_absent s e body n ea eb en = rw (ea, eb, en)
-
-pub again_present : (s : List ℕ) (e : Envelope) (ttl qos : ℕ) (p q : Part) (source destination body : List ℕ) (n : ℕ)
-    → e.addressing ≡ Present ttl qos p q → source ≡ part_of s (told_part p) → destination ≡ part_of s (told_part q)
-    → body ≡ part_of s (told_part e.body) → n ≡ application_number (told_integrity e.integrity)
-    → given e.header (routing.Present ttl qos) source destination body n ≡ given_by s (told_envelope e)
-again_present s e ttl qos p q source destination body n ea es ed eb en = rw (ea, es, ed, eb, en)
-
--- the same given: the same promise
-pub writes_same : (g h : Given) (entry exit : List ℕ) (r : Writing) → g ≡ h → Writes g entry r exit → Writes h entry r exit
-writes_same g h entry exit r e w = subst (λ (x : Given). Writes x entry r exit) e w
 
 -- ---- the answer and the buffer
 
@@ -63,17 +43,24 @@ module _ (s : List ℕ) (f : Fields) (entry exit : List ℕ) (bytes : Bytes s) (
   rewriting_is : rewriting s (length entry) ≡ cond short no_room (rewrote (length s))
   rewriting_is = rw accepts
 
-  pub rewrote_it : (n : ℕ) → wrote n ≡ answer_to_writing (writing (given_by s f) (length entry))
+  rewrote_it : (n : ℕ) → wrote n ≡ answer_to_writing (writing (given_by s f) (length entry))
       → (rewrote n ≡ rewriting s (length entry)) × (exit ≡ after_rewriting (rewriting s (length entry)) s entry)
   rewrote_it n e =
       let p = wrote_cases short s entry n (e ∙ ap answer_to_writing outcome) in
       (p.0 ∙ sym rewriting_is, kept ∙ ap (λ (o : WriteOutcome). after_writing o entry) outcome ∙ p.1 ∙ ap (λ (a : RewriteAnswer). after_rewriting a s entry) (sym rewriting_is))
 
-  pub no_room_lem : (k : ℕ) → write.refused k ≡ answer_to_writing (writing (given_by s f) (length entry))
+  no_room_lem : (k : ℕ) → write.refused k ≡ answer_to_writing (writing (given_by s f) (length entry))
       → (no_room ≡ rewriting s (length entry)) × (exit ≡ after_rewriting (rewriting s (length entry)) s entry)
   no_room_lem k e =
       let p = refused_cases short s entry k (e ∙ ap answer_to_writing outcome) in
       (p.0 ∙ sym rewriting_is, kept ∙ ap (λ (o : WriteOutcome). after_writing o entry) outcome ∙ p.1 ∙ ap (λ (a : RewriteAnswer). after_rewriting a s entry) (sym rewriting_is))
+
+  -- whatever refusal writing could give stands for want of room
+  pub again : (w : Result ℕ WriteFault) (r : Result ℕ RewriteFault) → MatchResult w (λ n. r ≡ Ok n) (λ f. r ≡ Err NoRoom)
+      → told_writing w ≡ answer_to_writing (writing (given_by s f) (length entry))
+      → (told_rewriting r ≡ rewriting s (length entry)) × (exit ≡ after_rewriting (rewriting s (length entry)) s entry)
+  again (Ok n) r h e = rw h (rewrote_it n e)
+  again (Err k) r h e = rw h (no_room_lem _ e)
 
 -- ---- how long an answer can be
 

@@ -3,7 +3,7 @@
 use Rattle.std.proofs.Common.{◌≡◌, ℕ, ◌+◌, ◌<◌, ◌≤◌, Bool, true, false, cond, ◌||◌, ltb, leb, List, [], ◌∷◌, ◌++◌, length, take, drop, sym, refl, ap, ◌∙◌, append_assoc, zero-add, arith, length-append, ltb-false, leb-false}
 use lib.Seq.{take-append_seam}
 use Rattle.envelope.specs.Flags.{kind_of, bad_flags}
-use Rattle.envelope.specs.Helpers.{pasted, variable_length, Allowed}
+use Rattle.envelope.specs.Helpers.{pasted, variable_length, variable_of_length, Allowed}
 use Rattle.envelope.specs.Layout.{header_size, field_size, largest_variable, largest_address, largest_body, largest_message}
 use Rattle.envelope.specs.Message.{RoutingFields, unaddressed, addressed, Given, header_bytes, variable_bytes, variable_of, before_field, field_number, message}
 use Rattle.envelope.specs.Numbers.{in_four}
@@ -20,9 +20,6 @@ pub variable_length_lem : (routing : RoutingFields) (source destination : List �
     → length (variable_bytes routing source destination) ≡ variable_length routing (length source) (length destination)
 variable_length_lem unaddressed source destination = refl
 variable_length_lem (addressed ttl qos) source destination = omega (arith, ends-length source destination)
-
-abbrev pub variable_of_length : Given → ℕ
-variable_of_length g = variable_length g.routing (length g.source) (length g.destination)
 
 pub before-length : (g : Given) → length (before_field g) ≡ header_size + variable_of_length g + length g.body
 unfolding before_field
@@ -121,8 +118,7 @@ wrote_kept g room n e =
     let p5 = passes (ltb room (length (message g))) 15 n _ p4.1 in
     record { four = record { flags = p1.0; ends = p2.0; body = p3.0; integrity = p4.0 }; fits = p5.0 }
 
-pub kept_allowed : (g : Given) (room : ℕ) → Kept g room
-    → Allowed g.routing (length g.source) (length g.destination) (length g.body) room
+pub kept_allowed : (g : Given) (room : ℕ) → Kept g room → Allowed g room
 kept_allowed g room k =
     let e = ends_short g.routing g.source g.destination k.four.ends in
     record {

@@ -1,6 +1,9 @@
 -- Laws of the first zero of a list: as a loop meets it, and of a list's front.
 -- Inductions on the list.
-use Rattle.std.proofs.Common.{◌≡◌, ℕ, zero, suc, ◌+◌, ◌<◌, ◌≤◌, Bool, true, false, cond, ◌||◌, eqb, ltb, List, [], ◌∷◌, ◌++◌, length, get_or, take, drop, sym, refl, ap, ◌∙◌, add-one, arith, drop_of_length-le, drop-cons, lt-ltb, eq-eqb, ne_eqb}
+use Rattle.std.proofs.Common.{◌≡◌, ℕ, zero, suc, ◌+◌, ◌<◌, ◌≤◌, Bool, true, false, cond, ◌||◌, eqb, ltb, Some, None, List, [], ◌∷◌, ◌++◌, length, get_or, take, drop, sym, refl, ap, ◌∙◌, add-one, arith, ltb-false, drop_of_length-le, drop-cons, lt-ltb, eq-eqb, ne_eqb}
+use Rattle.std.specs.List.{position_or_len, position, list_any}
+use Rattle.std.specs.Option.{unwrap_or}
+use Rattle.std.proofs.lemmas.List.Recursion.{is_position_or_len}
 use lib.Dec.{leb-suc-suc}
 use Rattle.envelope.specs.Addresses.{first_zero}
 use Rattle.envelope.specs.Writing.{has_zero}
@@ -35,6 +38,36 @@ zero_of_front [] zero h = refl
 zero_of_front [] (suc n) h = refl
 zero_of_front (b ∷ s) zero h = absurd (omega arith)
 zero_of_front (b ∷ s) (suc n) h = one_more (eqb b 0) (first_zero s) (first_zero (take n s)) n (zero_of_front s n) h
+
+-- the library's `position` finds it: the index of the first zero, and none where there is none
+first_zero_is : (s : List ℕ) → first_zero s ≡ position_or_len (λ b. eqb b 0) s
+unfolding first_zero
+first_zero_is s = is_position_or_len first_zero (λ b. eqb b 0) refl (λ b r. grind arith) s
+
+pub first_zero_most : (s : List ℕ) → first_zero s ≤ length s
+unfolding first_zero
+first_zero_most [] = omega arith
+first_zero_most (b ∷ s) = no_more (eqb b 0) (first_zero s) (length s) (first_zero_most s)
+  where
+    no_more : (z : Bool) (f l : ℕ) → f ≤ l → cond z 0 (suc f) ≤ suc l
+    no_more true f l h = omega arith
+    no_more false f l h = omega arith
+
+pub first_zero_found : (s : List ℕ) → unwrap_or (position (λ b. eqb b 0) s) (length s) ≡ first_zero s
+first_zero_found s = rw (← first_zero_is s) (found (first_zero s) (length s) (first_zero_most s))
+  where
+    found : (f l : ℕ) → f ≤ l → unwrap_or (cond (ltb f l) (Some f) None) l ≡ f
+    found f l h = at_or_past (ltb f l) refl
+      where
+        at_or_past : (t : Bool) → ltb f l ≡ t → unwrap_or (cond t (Some f) None) l ≡ f
+        at_or_past true e = refl
+        at_or_past false e = omega (arith, ltb-false f l e)
+
+-- the library's `contains` tells whether there is one
+pub zero_contained : (s : List ℕ) → list_any (λ b. eqb b 0) s ≡ has_zero s
+unfolding has_zero
+zero_contained [] = refl
+zero_contained (b ∷ s) = ap (λ (h : Bool). eqb b 0 || h) (zero_contained s)
 
 -- a list has a zero where its first zero is inside it
 pub zero_inside : (s : List ℕ) → has_zero s ≡ ltb (first_zero s) (length s)

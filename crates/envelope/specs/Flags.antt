@@ -1,6 +1,8 @@
 -- The flags byte, by paragraph 3.2.1.4 of source document 000, bit 0 the lowest. RULES 1.
 -- Bit 0 time format, 1 encryption, 2 compression, 3-4 integrity kind, 5-7 unassigned. Encryption and compression change no rule here.
 use Rattle.std.specs.Prelude.{◌≡◌, ℕ, ◌/◌, ◌%◌, Bool, not, ◌||◌, ◌==◌}
+use Rattle.envelope.specs.declared.fields.Kind.{Kind}
+use Rattle.envelope.specs.declared.fields.Kind.TheVariants.{None, Crc, Application, Unassigned}
 
 abbrev pub time_is_absolute : ℕ → Bool
 time_is_absolute flags = flags % 2 == 1
@@ -40,5 +42,15 @@ TellsEncryption flags r = r ≡ is_encrypted flags
 abbrev pub TellsCompression : ℕ → Bool → Type 0
 TellsCompression flags r = r ≡ is_compressed flags
 
-abbrev pub TellsKind : ℕ → ℕ → Type 0
-TellsKind flags r = r ≡ kind_of flags
+abbrev pub told_kind : Kind → ℕ
+told_kind None = kind_none
+told_kind Crc = kind_crc
+told_kind Application = kind_application
+told_kind Unassigned = kind_unassigned
+
+abbrev pub TellsKind : ℕ → Kind → Type 0
+TellsKind flags r = told_kind r ≡ kind_of flags
+
+-- what `u8::from` promises of a kind
+abbrev pub NumbersKind : Kind → ℕ → Type 0
+NumbersKind k r = r ≡ told_kind k

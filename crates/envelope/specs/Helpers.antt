@@ -1,52 +1,43 @@
 -- Meanings of the private helpers' answers. Nothing that a public promise says is defined here.
 -- `unless b x` is nothing where the rule b is broken, and else x.
-use Rattle.std.specs.Prelude.{ℕ, ◌+◌, ◌<◌, ◌≤◌, Bool, true, false, List, ◌++◌, length, take, drop}
-use Rattle.std.proofs.Math.Option.{Option, none, some}
-use Rattle.envelope.specs.Addresses.{source_size, destination_size}
-use Rattle.envelope.specs.Fields.{AddressingFields, IntegrityFields}
+use Rattle.std.specs.Prelude.{◌≡◌, ℕ, ◌+◌, ◌<◌, ◌≤◌, Bool, true, false, List, ◌++◌, length, take, drop, Option, Some, None, Result, Ok, Err, ok_or}
+use Rattle.envelope.specs.Addresses.{first_zero, source_size, destination_size}
+use Rattle.envelope.specs.Fields.{AddressingFields, IntegrityFields, Refusal}
 use Rattle.envelope.specs.Heading.{HeadingAnswer, passed, refused}
 use Rattle.envelope.specs.Layout.{header_size, routing_size, largest_address, largest_body, field_size}
-use Rattle.envelope.specs.Message.{RoutingFields, unaddressed, addressed}
-use Rattle.envelope.specs.RoundTrips.{given_by}
-use Rattle.envelope.specs.Told.{told_refusal, told_addressing, told_integrity, told_envelope}
-use Rattle.envelope.specs.Writing.{Writes}
-use Rattle.envelope.specs.declared.addresses.Ends.{Ends}
-use Rattle.envelope.specs.declared.addresses.Ends.TheVariants as ends
-use Rattle.envelope.specs.declared.addresses.FoundAddressing.{FoundAddressing}
-use Rattle.envelope.specs.declared.addresses.FoundAddressing.TheVariants as addressing
-use Rattle.envelope.specs.declared.fields.Envelope.{Envelope}
-use Rattle.envelope.specs.declared.integrity_field.FoundIntegrity.{FoundIntegrity}
-use Rattle.envelope.specs.declared.integrity_field.FoundIntegrity.TheVariants as integrity
-use Rattle.envelope.specs.declared.reader.Heading.{Heading}
-use Rattle.envelope.specs.declared.reader.Heading.TheVariants as heading
-use Rattle.envelope.specs.declared.writer.Writing.{Writing}
+use Rattle.envelope.specs.Message.{RoutingFields, unaddressed, addressed, Given}
+use Rattle.envelope.specs.Told.{told_refusal, told_addressing, told_integrity}
+use Rattle.envelope.specs.declared.addresses.Sizes.{Sizes}
+use Rattle.envelope.specs.declared.fields.Addressing.{Addressing}
+use Rattle.envelope.specs.declared.fields.Integrity.{Integrity}
+use Rattle.envelope.specs.declared.reader.Refusal.{Refusal as CodeRefusal}
 
 abbrev pub unless : {A : Type 0} → Bool → A → Option A
-unless true x = none
-unless false x = some x
+unless true x = None
+unless false x = Some x
 
-pub record Sizes : Type 0 where
-  pub source : ℕ
-  pub destination : ℕ
+-- the refusal r where the rule b is broken, and else x
+abbrev pub unless_refused : {A R : Type 0} → Bool → R → A → Result A R
+unless_refused b r x = ok_or (unless b x) r
+
+-- an address of n bytes, which the first zero closes
+abbrev pub Closes : List ℕ → ℕ → Type 0
+Closes s n = (n ≡ first_zero s) × (n < largest_address) × (n < length s)
 
 abbrev pub sizes : List ℕ → Sizes
 sizes region = record { source = source_size region; destination = destination_size region }
 
-abbrev pub told_ends : Ends → Option Sizes
-told_ends ends.Refused = none
-told_ends (ends.Sizes a b) = some (record { source = a; destination = b })
+abbrev pub told_found_addressing : Result (Option Addressing) CodeRefusal → Result AddressingFields Refusal
+told_found_addressing (Ok a) = Ok (told_addressing a)
+told_found_addressing (Err r) = Err (told_refusal r)
 
-abbrev pub told_found_addressing : FoundAddressing → Option AddressingFields
-told_found_addressing addressing.Refused = none
-told_found_addressing (addressing.Good a) = some (told_addressing a)
+abbrev pub told_found_integrity : Result Integrity CodeRefusal → Result IntegrityFields Refusal
+told_found_integrity (Ok i) = Ok (told_integrity i)
+told_found_integrity (Err r) = Err (told_refusal r)
 
-abbrev pub told_found_integrity : FoundIntegrity → Option IntegrityFields
-told_found_integrity integrity.Refused = none
-told_found_integrity (integrity.Good i) = some (told_integrity i)
-
-abbrev pub told_heading : Heading → HeadingAnswer
-told_heading heading.Passed = passed
-told_heading (heading.Refused r) = refused (told_refusal r)
+abbrev pub told_heading : Result (Unit {0}) CodeRefusal → HeadingAnswer
+told_heading (Ok u) = passed
+told_heading (Err r) = refused (told_refusal r)
 
 -- ---- of the writer
 
@@ -59,13 +50,12 @@ abbrev pub variable_length : RoutingFields → ℕ → ℕ → ℕ
 variable_length unaddressed source destination = 0
 variable_length (addressed ttl qos) source destination = routing_size + (source + 1 + (destination + 1))
 
--- the sizes of what may be written
-pub record Allowed (routing : RoutingFields) (source destination body room : ℕ) : Type 0 where
-  pub source_short : source < largest_address
-  pub destination_short : destination < largest_address
-  pub body_short : body ≤ largest_body
-  pub fits : header_size + variable_length routing source destination + body + field_size ≤ room
+abbrev pub variable_of_length : Given → ℕ
+variable_of_length g = variable_length g.routing (length g.source) (length g.destination)
 
--- an envelope's fields and parts, written: what `write` promises of them
-abbrev pub Again : List ℕ → Envelope → List ℕ → Writing → List ℕ → Type 0
-Again s e entry r exit = Writes (given_by s (told_envelope e)) entry r exit
+-- what may be written: short enough, and within the room
+pub record Allowed (g : Given) (room : ℕ) : Type 0 where
+  pub source_short : length g.source < largest_address
+  pub destination_short : length g.destination < largest_address
+  pub body_short : length g.body ≤ largest_body
+  pub fits : header_size + variable_of_length g + length g.body + field_size ≤ room

@@ -1,11 +1,10 @@
 -- Lateness of a message at a clock, counted from its entry into the messaging infrastructure, both in seconds. RULES 4.
 -- The sum of entry and TTL is a whole number: it does not run round. Each theorem is a type here; proofs in proofs/LatenessLaws.
-use Rattle.std.specs.Prelude.{◌≡◌, ℕ, ◌+◌, ◌<◌, ◌≤◌, Bool, cond, ◌==◌, nat_lt}
+use Rattle.std.specs.Prelude.{◌≡◌, ℕ, ◌+◌, ◌<◌, ◌≤◌, Bool, cond, ◌==◌, Some, nat_lt}
 use Rattle.envelope.specs.Fields.{AddressingFields, absent, present, Fields}
 use Rattle.envelope.specs.Told.{told_envelope}
-use Rattle.envelope.specs.declared.fields.Addressing.TheVariants.{Present}
+use Rattle.envelope.specs.declared.fields.Addressing.{Addressing}
 use Rattle.envelope.specs.declared.fields.Envelope.{Envelope}
-use Rattle.envelope.specs.declared.fields.Part.{Part}
 use Rattle.envelope.specs.declared.lateness.Lateness.{Lateness}
 use Rattle.envelope.specs.declared.lateness.Lateness.TheVariants.{NoClock, Late, InTime}
 
@@ -50,6 +49,6 @@ LateStaysLate =
 -- with a TTL that is not blank: in time at every clock up to entry + TTL, and at no other
 abbrev pub InTimeUpToEntryAndTtl : Type 0
 InTimeUpToEntryAndTtl =
-    (e : Envelope) (ttl qos : ℕ) (source destination : Part) (entry clock : ℕ) (r : Lateness)
-    → e.addressing ≡ Present ttl qos source destination → 0 < ttl → JudgesLateness e entry clock r
-    → (clock ≤ entry + ttl → r ≡ InTime) × (r ≡ InTime → clock ≤ entry + ttl)
+    (e : Envelope) (a : Addressing) (entry clock : ℕ) (r : Lateness)
+    → e.addressing ≡ Some a → 0 < a.ttl → JudgesLateness e entry clock r
+    → (clock ≤ entry + a.ttl → r ≡ InTime) × (r ≡ InTime → clock ≤ entry + a.ttl)

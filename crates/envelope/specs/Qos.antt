@@ -1,9 +1,7 @@
 -- The QoS field: its five numbers, split out and joined again. RULES 1.
 -- Bits 15-13 service request, 12-9 special handling, 8-6 network preference, 5-3 priority, 2-0 class.
-use Rattle.std.specs.Prelude.{◌≡◌, ℕ, ◌+◌, ◌*◌, ◌/◌, ◌%◌, ◌<◌, Bool, cond, ◌&&◌, nat_lt}
+use Rattle.std.specs.Prelude.{◌≡◌, ℕ, ◌+◌, ◌*◌, ◌/◌, ◌%◌, ◌<◌, Bool, cond, ◌&&◌, nat_lt, Option, Some, None}
 use Rattle.envelope.specs.declared.qos.Qos.{Qos}
-use Rattle.envelope.specs.declared.qos.Joining.{Joining}
-use Rattle.envelope.specs.declared.qos.Joining.TheVariants.{Joined, DoesNotFit}
 
 pub record QosFields : Type 0 where
   pub service_request : ℕ
@@ -52,15 +50,15 @@ told_qos q =
       class = q.class;
     }
 
-abbrev pub told_joining : Joining → QosAnswer
-told_joining (Joined q) = joined q
-told_joining DoesNotFit = refused 41
+abbrev pub told_joining : Option ℕ → QosAnswer
+told_joining (Some q) = joined q
+told_joining None = refused 41
 
 -- what `split` and `join` promise
 abbrev pub Splits : ℕ → Qos → Type 0
 Splits q r = told_qos r ≡ splitting q
 
-abbrev pub Joins : Qos → Joining → Type 0
+abbrev pub Joins : Qos → Option ℕ → Type 0
 Joins q r = told_joining r ≡ joining (told_qos q)
 
 -- the two ways round: a field split and joined again is that field, and what was joined splits into what it was joined from

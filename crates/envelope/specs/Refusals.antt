@@ -34,7 +34,7 @@ told_numbers n = record { number = n.number; reading = n.reading; place = n.plac
 abbrev pub TellsNumbers : Refused → Numbers → Type 0
 TellsNumbers refused r = told_numbers r ≡ numbers_of refused
 
--- what `Numbers::by_reading`, `Numbers::plainly` and `Numbers::passing_on` promise
+-- what `Numbers::from`, `Numbers::plainly` and `Numbers::passing_on` promise
 abbrev pub NumbersByReading : CodeRefusal → Numbers → Type 0
 NumbersByReading refusal r = told_numbers r ≡ reading_numbers (told_refusal refusal)
 

@@ -1,14 +1,14 @@
 -- Reading and writing again: the refusals of reading, then 15 where the buffer is shorter than the message, else the same bytes. RULES 3.
 -- `room` is the length of the buffer.
-use Rattle.std.specs.Prelude.{◌≡◌, ℕ, ◌≤◌, cond, List, ◌++◌, length, drop, ◌≢◌, nat_lt}
+use Rattle.std.specs.Prelude.{◌≡◌, ℕ, ◌≤◌, cond, List, ◌++◌, length, drop, ◌≢◌, nat_lt, Result, Ok, Err}
 use Rattle.envelope.specs.Fields.{Refusal, Answer, accepted}
 use Rattle.envelope.specs.Fields as read
 use Rattle.envelope.specs.Layout.{largest_message}
 use Rattle.envelope.specs.Promise.{Bytes}
 use Rattle.envelope.specs.Reading.{reading}
 use Rattle.envelope.specs.Told.{told_refusal}
-use Rattle.envelope.specs.declared.rewriter.Rewriting.{Rewriting}
-use Rattle.envelope.specs.declared.rewriter.Rewriting.TheVariants.{Written, Refused, NoRoom}
+use Rattle.envelope.specs.declared.rewriter.RewriteFault.{RewriteFault}
+use Rattle.envelope.specs.declared.rewriter.RewriteFault.TheVariants.{Refused, NoRoom}
 
 pub data RewriteAnswer : Type 0 where
   rewrote : ℕ → RewriteAnswer
@@ -32,10 +32,10 @@ after_rewriting (rewrote n) s entry = s ++ drop n entry
 after_rewriting (refused r) s entry = entry
 after_rewriting no_room s entry = entry
 
-abbrev pub told_rewriting : Rewriting → RewriteAnswer
-told_rewriting (Written n) = rewrote n
-told_rewriting (Refused r) = refused (told_refusal r)
-told_rewriting NoRoom = no_room
+abbrev pub told_rewriting : Result ℕ RewriteFault → RewriteAnswer
+told_rewriting (Ok n) = rewrote n
+told_rewriting (Err (Refused r)) = refused (told_refusal r)
+told_rewriting (Err NoRoom) = no_room
 
 -- no message is longer than the longest; proved in proofs/RewriteLaws
 abbrev pub rewrote_length : RewriteAnswer → ℕ
@@ -60,11 +60,11 @@ abbrev pub RewritePassesOn : Type 0
 RewritePassesOn = (s : List ℕ) (room : ℕ) (r : Refusal) → rewriting s room ≡ refused r → reading s ≡ read.refused r
 
 -- what `rewrite` promises
-abbrev pub Rewrites : List ℕ → List ℕ → Rewriting → List ℕ → Type 0
+abbrev pub Rewrites : List ℕ → List ℕ → Result ℕ RewriteFault → List ℕ → Type 0
 Rewrites s entry r exit =
     (told_rewriting r ≡ rewriting s (length entry)) × (exit ≡ after_rewriting (rewriting s (length entry)) s entry)
 
 -- a refusal leaves the buffer as it was; proved in proofs/RewriteLaws
 abbrev pub RefusedRewriteWritesNothing : Type 0
 RefusedRewriteWritesNothing =
-    (s entry exit : List ℕ) (r : Rewriting) → Rewrites s entry r exit → ((n : ℕ) → told_rewriting r ≢ rewrote n) → exit ≡ entry
+    (s entry exit : List ℕ) (r : Result ℕ RewriteFault) → Rewrites s entry r exit → ((n : ℕ) → told_rewriting r ≢ rewrote n) → exit ≡ entry

@@ -1,6 +1,6 @@
 -- Written then read: the same fields. Read then written: the same bytes. Each statement is a type here; proofs in proofs/RoundTripLaws. RULES 3.
 -- What reading hands out is put as a sender would give it: the told fields, and the parts of the bytes that they name.
-use Rattle.std.specs.Prelude.{◌≡◌, ℕ, ◌≤◌, List, [], ◌++◌, length, take, drop}
+use Rattle.std.specs.Prelude.{◌≡◌, ℕ, ◌≤◌, List, [], ◌++◌, length, take, drop, Result, Ok}
 use Rattle.sum.specs.Detection.{Bytes}
 use Rattle.envelope.specs.Fields.{AddressingFields, absent, present, IntegrityFields, none, crc, application, Fields, accepted, part_of}
 use Rattle.envelope.specs.Message.{RoutingFields, unaddressed, addressed, Given}
@@ -8,9 +8,8 @@ use Rattle.envelope.specs.Reading.{reading}
 use Rattle.envelope.specs.Told.{told_envelope, told, Reads}
 use Rattle.envelope.specs.Writing.{written, writing, wrote, told_writing, Writes}
 use Rattle.envelope.specs.declared.fields.Envelope.{Envelope}
-use Rattle.envelope.specs.declared.reader.Reading.{Reading as ReadingAnswer}
-use Rattle.envelope.specs.declared.reader.Reading.TheVariants.{Accepted}
-use Rattle.envelope.specs.declared.writer.Writing.{Writing}
+use Rattle.envelope.specs.declared.reader.Refusal.{Refusal}
+use Rattle.envelope.specs.declared.writer.WriteFault.{WriteFault}
 
 abbrev pub routing_of : AddressingFields → RoutingFields
 routing_of absent = unaddressed
@@ -53,10 +52,10 @@ WrittenThenRead = (g : Given) (room : ℕ) (m : List ℕ) → writing g room ≡
 -- so is the front of the buffer after `write` has answered a length
 abbrev pub WrittenBufferThenRead : Type 0
 WrittenBufferThenRead =
-    (g : Given) (entry exit : List ℕ) (r : Writing) (n : ℕ) → Writes g entry r exit → told_writing r ≡ wrote n → ReadsAs (take n exit) g
+    (g : Given) (entry exit : List ℕ) (r : Result ℕ WriteFault) (n : ℕ) → Writes g entry r exit → told_writing r ≡ wrote n → ReadsAs (take n exit) g
 
 -- an answer to bytes that hands out what g gives
-pub record HandsOut (r : ReadingAnswer) (m : List ℕ) (g : Given) : Type 0 where
+pub record HandsOut (r : Result Envelope Refusal) (m : List ℕ) (g : Given) : Type 0 where
   pub fields : Fields
   pub tells : told r ≡ accepted fields
   pub same : given_by m fields ≡ g
@@ -64,7 +63,7 @@ pub record HandsOut (r : ReadingAnswer) (m : List ℕ) (g : Given) : Type 0 wher
 -- and any answer of `read` to that front hands out what was given
 abbrev pub WrittenThenHandedOut : Type 0
 WrittenThenHandedOut =
-    (g : Given) (entry exit : List ℕ) (w : Writing) (n : ℕ) (r : ReadingAnswer)
+    (g : Given) (entry exit : List ℕ) (w : Result ℕ WriteFault) (n : ℕ) (r : Result Envelope Refusal)
     → Writes g entry w exit → told_writing w ≡ wrote n → Reads (take n exit) r → HandsOut r (take n exit) g
 
 -- what reading hands out of s, written, is s
@@ -75,7 +74,7 @@ ReadThenWritten =
 -- what `read` handed out, given to `write` with room enough: those bytes, and then what the buffer held
 abbrev pub HandedOutThenWritten : Type 0
 HandedOutThenWritten =
-    (s : List ℕ) (e : Envelope) (entry exit : List ℕ) (w : Writing) → Bytes s → Reads s (Accepted e) → length s ≤ length entry
+    (s : List ℕ) (e : Envelope) (entry exit : List ℕ) (w : Result ℕ WriteFault) → Bytes s → Reads s (Ok e) → length s ≤ length entry
     → Writes (given_by s (told_envelope e)) entry w exit → (told_writing w ≡ wrote (length s)) × (exit ≡ s ++ drop (length s) entry)
 
 -- accepted bytes with the same fields, and the same bytes in the parts that these name, are the same

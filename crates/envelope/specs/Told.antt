@@ -1,19 +1,16 @@
 -- The paper's number and values for each case of the answer of `read`, and what `read` promises.
 -- The order of the numbers is that of the table of refusals.
-use Rattle.std.specs.Prelude.{◌≡◌, ℕ, List}
+use Rattle.std.specs.Prelude.{◌≡◌, ℕ, List, Option, Some, None, Result, Ok, Err}
 use Rattle.envelope.specs.Fields.{Span, HeaderFields, AddressingFields, absent, present, IntegrityFields, none, crc, application, Fields, Refusal, Answer, accepted, refused, part_of}
 use Rattle.envelope.specs.Reading.{reading}
 use Rattle.envelope.specs.declared.fields.Part.{Part}
 use Rattle.envelope.specs.declared.fields.Header.{Header}
 use Rattle.envelope.specs.declared.fields.Addressing.{Addressing}
-use Rattle.envelope.specs.declared.fields.Addressing.TheVariants.{Absent, Present}
 use Rattle.envelope.specs.declared.fields.Integrity.{Integrity}
-use Rattle.envelope.specs.declared.fields.Integrity.TheVariants.{None, Crc, Application}
+use Rattle.envelope.specs.declared.fields.Integrity.TheVariants as held
 use Rattle.envelope.specs.declared.fields.Envelope.{Envelope}
 use Rattle.envelope.specs.declared.reader.Fault.{Fault}
 use Rattle.envelope.specs.declared.reader.Fault.TheVariants.{TooShort, WrongVersion, BadFlags, BadVariableSize, WrongLength, BadAddresses, BadIntegrity}
-use Rattle.envelope.specs.declared.reader.Reading.{Reading}
-use Rattle.envelope.specs.declared.reader.Reading.TheVariants.{Accepted, Refused}
 use Rattle.envelope.specs.declared.reader.Refusal.{Refusal as CodeRefusal}
 
 abbrev pub told_fault : Fault → ℕ
@@ -25,7 +22,7 @@ told_fault WrongLength = 5
 told_fault BadAddresses = 6
 told_fault BadIntegrity = 7
 
--- what `Fault::number` promises
+-- what `u8::from` promises of a fault
 abbrev pub NumbersFault : Fault → ℕ → Type 0
 NumbersFault f r = r ≡ told_fault f
 
@@ -46,14 +43,14 @@ told_header h =
       time = h.time;
     }
 
-abbrev pub told_addressing : Addressing → AddressingFields
-told_addressing Absent = absent
-told_addressing (Present ttl qos source destination) = present ttl qos (told_part source) (told_part destination)
+abbrev pub told_addressing : Option Addressing → AddressingFields
+told_addressing None = absent
+told_addressing (Some a) = present a.ttl a.qos (told_part a.source) (told_part a.destination)
 
 abbrev pub told_integrity : Integrity → IntegrityFields
-told_integrity None = none
-told_integrity (Crc held) = crc held
-told_integrity (Application held) = application held
+told_integrity held.None = none
+told_integrity (held.Crc n) = crc n
+told_integrity (held.Application n) = application n
 
 abbrev pub told_envelope : Envelope → Fields
 told_envelope e =
@@ -64,19 +61,19 @@ told_envelope e =
       integrity = told_integrity e.integrity;
     }
 
-abbrev pub told : Reading → Answer
-told (Accepted e) = accepted (told_envelope e)
-told (Refused r) = refused (told_refusal r)
+abbrev pub told : Result Envelope CodeRefusal → Answer
+told (Ok e) = accepted (told_envelope e)
+told (Err r) = refused (told_refusal r)
 
 -- what `Part::slice` promises: the bytes of the part, as far as they reach
 abbrev pub Slices : Part → List ℕ → List ℕ → Type 0
 Slices p bytes r = r ≡ part_of bytes (told_part p)
 
 -- what `read` promises
-abbrev pub Reads : List ℕ → Reading → Type 0
+abbrev pub Reads : List ℕ → Result Envelope CodeRefusal → Type 0
 Reads bytes r = told r ≡ reading bytes
 
 -- what `Envelope::new` promises: the four that were given, and nothing else
-abbrev pub Holds : Header → Addressing → Part → Integrity → Envelope → Type 0
+abbrev pub Holds : Header → Option Addressing → Part → Integrity → Envelope → Type 0
 Holds header addressing body integrity r =
     r ≡ record { header = header; addressing = addressing; body = body; integrity = integrity }

@@ -1,17 +1,15 @@
 -- Writing: the five refusals in their order, the first that applies is the answer; a refusal writes nothing. RULES 3.
 -- `room` is the length of the buffer.
-use Rattle.std.specs.Prelude.{◌≡◌, ℕ, ◌≤◌, Bool, false, cond, not, ◌&&◌, ◌||◌, List, [], ◌∷◌, ◌++◌, length, drop, ◌==◌, nat_le, nat_lt}
+use Rattle.std.specs.Prelude.{◌≡◌, ℕ, ◌≤◌, Bool, false, cond, not, ◌&&◌, ◌||◌, List, [], ◌∷◌, ◌++◌, length, drop, ◌==◌, nat_le, nat_lt, Option, Some, None, Result, Ok, Err}
 use Rattle.envelope.specs.Flags.{kind_of, kind_none, kind_crc, bad_flags}
 use Rattle.envelope.specs.Layout.{largest_address, largest_body, largest_message}
 use Rattle.envelope.specs.Message.{RoutingFields, unaddressed, addressed, Given, message}
 use Rattle.envelope.specs.Told.{told_header}
 use Rattle.envelope.specs.declared.fields.Header.{Header}
+use Rattle.envelope.specs.declared.writer.Given.{Given as CodeGiven}
 use Rattle.envelope.specs.declared.writer.Routing.{Routing}
-use Rattle.envelope.specs.declared.writer.Routing.TheVariants.{Absent, Present}
 use Rattle.envelope.specs.declared.writer.WriteFault.{WriteFault}
 use Rattle.envelope.specs.declared.writer.WriteFault.TheVariants.{BadFlags, BadAddresses, BodyTooLong, StrayIntegrity, NoRoom}
-use Rattle.envelope.specs.declared.writer.Writing.{Writing}
-use Rattle.envelope.specs.declared.writer.Writing.TheVariants.{Written, Refused}
 
 unfoldable pub has_zero : List ℕ → Bool
 has_zero [] = false
@@ -75,20 +73,20 @@ told_write_fault BodyTooLong = 13
 told_write_fault StrayIntegrity = 14
 told_write_fault NoRoom = 15
 
--- what `WriteFault::number` promises
+-- what the number of a fault is
 abbrev pub NumbersWriteFault : WriteFault → ℕ → Type 0
 NumbersWriteFault f r = r ≡ told_write_fault f
 
-abbrev pub told_writing : Writing → WriteAnswer
-told_writing (Written n) = wrote n
-told_writing (Refused f) = refused (told_write_fault f)
+abbrev pub told_writing : Result ℕ WriteFault → WriteAnswer
+told_writing (Ok n) = wrote n
+told_writing (Err f) = refused (told_write_fault f)
 
-abbrev pub told_routing : Routing → RoutingFields
-told_routing Absent = unaddressed
-told_routing (Present ttl qos) = addressed ttl qos
+abbrev pub told_routing : Option Routing → RoutingFields
+told_routing None = unaddressed
+told_routing (Some r) = addressed r.ttl r.qos
 
 -- what is lent to `write`, as a sender gives it
-abbrev pub given : Header → Routing → List ℕ → List ℕ → List ℕ → ℕ → Given
+abbrev pub given : Header → Option Routing → List ℕ → List ℕ → List ℕ → ℕ → Given
 given header routing source destination body application =
     record {
       header = told_header header;
@@ -99,8 +97,11 @@ given header routing source destination body application =
       application = application;
     }
 
+abbrev pub told_given : CodeGiven → Given
+told_given g = given g.header g.routing g.source.now g.destination.now g.body.now g.application
+
 -- what `write` promises, of its answer and of the whole buffer afterwards
-abbrev pub Writes : Given → List ℕ → Writing → List ℕ → Type 0
+abbrev pub Writes : Given → List ℕ → Result ℕ WriteFault → List ℕ → Type 0
 Writes g entry r exit =
     (told_writing r ≡ answer_to_writing (writing g (length entry))) × (exit ≡ after_writing (writing g (length entry)) entry)
 
@@ -115,4 +116,4 @@ WritesNoLonger = (g : Given) (room : ℕ) → wrote_length (answer_to_writing (w
 -- a refusal leaves the buffer as it was; proved in proofs/WriteLaws
 abbrev pub RefusalWritesNothing : Type 0
 RefusalWritesNothing =
-    (g : Given) (entry exit : List ℕ) (r : Writing) (n : ℕ) → Writes g entry r exit → told_writing r ≡ refused n → exit ≡ entry
+    (g : Given) (entry exit : List ℕ) (r : Result ℕ WriteFault) (n : ℕ) → Writes g entry r exit → told_writing r ≡ refused n → exit ≡ entry

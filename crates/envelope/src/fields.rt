@@ -1,4 +1,5 @@
 // What an accepted message is handed out as, and the numbers of its layout.
+ghost use Rattle.envelope.specs.Flags.{NumbersKind};
 ghost use Rattle.envelope.specs.Told.{Slices, Holds};
 
 // A part of the bytes lent: its first place and its size.
@@ -13,16 +14,8 @@ impl Part {
     pub fn slice<'a>(self, bytes: &'a [u8]) -> &'a [u8]
         ensures { Slices self bytes.now result.now }
     {
-        let place = self.place;
-        let size = self.size;
-        if bytes.len() <= place {
-            return &bytes[..0];
-        }
-        if bytes.len() - place <= size {
-            return &bytes[place..];
-        }
-        let end = place + size;
-        &bytes[place..end]
+        let rest = &bytes[self.place.min(bytes.len())..];
+        &rest[..self.size.min(rest.len())]
     }
 }
 
@@ -36,18 +29,33 @@ pub struct Header {
     pub time: u32,
 }
 
-// An end is a part without its closing zero.
+// A variable header, where there is one. An end is a part without its closing zero.
 #[derive(Clone, Copy)]
-pub enum Addressing {
-    Absent,
-    Present {
-        ttl: u16,
-        qos: u16,
-        source: Part,
-        destination: Part,
-    },
+pub struct Addressing {
+    pub ttl: u16,
+    pub qos: u16,
+    pub source: Part,
+    pub destination: Part,
 }
 
+// The integrity kinds, each with its number in the flags.
+#[derive(Clone, Copy, PartialEq, Eq)]
+pub enum Kind {
+    None = 0,
+    Crc = 1,
+    Application = 2,
+    Unassigned = 3,
+}
+
+impl From<Kind> for u8 {
+    ghost from_gives = { NumbersKind };
+
+    fn from(kind: Kind) -> u8 {
+        kind as u8
+    }
+}
+
+// What the integrity field holds, by its kind.
 #[derive(Clone, Copy)]
 pub enum Integrity {
     None,
@@ -58,7 +66,7 @@ pub enum Integrity {
 #[derive(Clone, Copy)]
 pub struct Envelope {
     pub header: Header,
-    pub addressing: Addressing,
+    pub addressing: Option<Addressing>,
     pub body: Part,
     pub integrity: Integrity,
 }
@@ -107,7 +115,12 @@ impl Envelope {
     // The largest body that a data length of three bytes can state.
     pub const LARGEST_BODY: usize = 16_777_215;
 
-    pub fn new(header: Header, addressing: Addressing, body: Part, integrity: Integrity) -> Envelope
+    pub fn new(
+        header: Header,
+        addressing: Option<Addressing>,
+        body: Part,
+        integrity: Integrity,
+    ) -> Envelope
         ensures { Holds header addressing body integrity result }
     {
         Envelope {

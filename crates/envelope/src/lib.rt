@@ -2,7 +2,7 @@
 // Rests on the crate `sum`, by its promise alone.
 #![tactic(auto)]
 
-mod addresses;
+pub mod addresses;
 pub mod announcer;
 pub mod fields;
 pub mod flags;
@@ -16,9 +16,10 @@ pub mod rewriter;
 pub mod sequence;
 pub mod writer;
 
-pub use crate::announcer::{Announcement, announce};
-pub use crate::fields::{Addressing, Envelope, Header, Integrity, Part};
-pub use crate::reader::{Fault, Reading, Refusal, read};
+pub use crate::addresses::first_zero;
+pub use crate::announcer::announce;
+pub use crate::fields::{Addressing, Envelope, Header, Integrity, Kind, Part};
+pub use crate::reader::{Fault, Refusal, read};
 pub use crate::refusals::Numbers;
-pub use crate::rewriter::{Rewriting, rewrite};
-pub use crate::writer::{Routing, WriteFault, Writing, write};
+pub use crate::rewriter::{RewriteFault, rewrite};
+pub use crate::writer::{Given, Routing, WriteFault, write};

@@ -10,47 +10,38 @@ pub struct Qos {
     pub class: u8,
 }
 
-#[derive(Clone, Copy)]
-pub enum Joining {
-    Joined(u16),
-    DoesNotFit,
-}
-
+// The way back of join, and so named beside it: From would name this one way alone.
+#[tactic(auto, unfolding(crate::specs::Qos::splitting))]
 pub fn split(qos: u16) -> Qos
     ensures { Splits qos result }
 {
     Qos {
-        service_request: (qos / 8192 % 8) as u8,
-        special_handling: (qos / 512 % 16) as u8,
-        network_preference: (qos / 64 % 8) as u8,
-        priority: (qos / 8 % 8) as u8,
-        class: (qos % 8) as u8,
+        service_request: (qos >> 13) as u8,
+        special_handling: (qos >> 9 & 15) as u8,
+        network_preference: (qos >> 6 & 7) as u8,
+        priority: (qos >> 3 & 7) as u8,
+        class: (qos & 7) as u8,
     }
 }
 
-pub fn join(qos: Qos) -> Joining
+// Nothing where a number does not fit its bits.
+#[tactic(auto, using(crate::proofs::QosLaws::in_their_bits), unfolding(crate::specs::Qos::joining))]
+pub fn join(qos: Qos) -> Option<u16>
     ensures { Joins qos result }
 {
-    if qos.service_request >= 8 {
-        return Joining::DoesNotFit;
+    if qos.service_request < 8
+        && qos.special_handling < 16
+        && qos.network_preference < 8
+        && qos.priority < 8
+        && qos.class < 8
+    {
+        return Some(
+            u16::from(qos.service_request) << 13
+                | u16::from(qos.special_handling) << 9
+                | u16::from(qos.network_preference) << 6
+                | u16::from(qos.priority) << 3
+                | u16::from(qos.class),
+        );
     }
-    if qos.special_handling >= 16 {
-        return Joining::DoesNotFit;
-    }
-    if qos.network_preference >= 8 {
-        return Joining::DoesNotFit;
-    }
-    if qos.priority >= 8 {
-        return Joining::DoesNotFit;
-    }
-    if qos.class >= 8 {
-        return Joining::DoesNotFit;
-    }
-    Joining::Joined(
-        (qos.service_request as u16) * 8192
-            + (qos.special_handling as u16) * 512
-            + (qos.network_preference as u16) * 64
-            + (qos.priority as u16) * 8
-            + (qos.class as u16),
-    )
+    None
 }

@@ -1,27 +1,35 @@
 // Reading: any bytes in, the envelope out, or the first rule that they break.
 ghost use Rattle.std.specs.Prelude.{◌≡◌, ◌≤◌, length};
-ghost use Rattle.envelope.specs.Heading.{bad_variable_size, heading, passed};
+ghost use Rattle.envelope.specs.Heading.{announced, bad_variable_size, heading, passed};
 ghost use Rattle.envelope.specs.Layout.{header_size, least_size};
 ghost use Rattle.envelope.specs.Reading.{header_of, reading_whole};
 ghost use Rattle.envelope.specs.Told.{told_header, told, NumbersFault, Reads};
 ghost use Rattle.envelope.specs.Helpers.{told_heading};
 
-use crate::addresses::{FoundAddressing, addressing_of};
+use crate::addresses::addressing_of;
 use crate::fields::{Envelope, Header, Part};
 use crate::flags;
-use crate::integrity_field::{FoundIntegrity, integrity_of};
-use crate::numbers::{four_at, three_at, two_at, wide};
+use crate::integrity_field::integrity_of;
+use crate::numbers::{four_at, three_at, two_at};
 
-// The rules of reading, in their order.
+// The rules of reading, in their order, each with its number in the table of refusals.
 #[derive(Clone, Copy)]
 pub enum Fault {
-    TooShort,
-    WrongVersion,
-    BadFlags,
-    BadVariableSize,
-    WrongLength,
-    BadAddresses,
-    BadIntegrity,
+    TooShort = 1,
+    WrongVersion = 2,
+    BadFlags = 3,
+    BadVariableSize = 4,
+    WrongLength = 5,
+    BadAddresses = 6,
+    BadIntegrity = 7,
+}
+
+impl From<Fault> for u8 {
+    ghost from_gives = { NumbersFault };
+
+    fn from(fault: Fault) -> u8 {
+        fault as u8
+    }
 }
 
 // The rule that is broken, and the place in the message that it names. Whoever passes a refusal on passes it on whole.
@@ -31,96 +39,82 @@ pub struct Refusal {
     pub place: usize,
 }
 
-#[derive(Clone, Copy)]
-pub enum Reading {
-    Accepted(Envelope),
-    Refused(Refusal),
-}
-
-#[derive(Clone, Copy)]
-pub(crate) enum Heading {
-    Passed,
-    Refused(Refusal),
-}
-
-pub fn read(bytes: &[u8]) -> Reading
+#[tactic(auto, unfolding(crate::specs::Reading::reading))]
+pub fn read(bytes: &[u8]) -> Result<Envelope, Refusal>
     ensures { Reads bytes.now result }
 {
     if bytes.len() < Envelope::LEAST_SIZE {
-        return Reading::Refused(Refusal {
+        return Err(Refusal {
             fault: Fault::TooShort,
             place: bytes.len(),
         });
     }
-    match judge_heading(bytes) {
-        Heading::Refused(refusal) => Reading::Refused(refusal),
-        Heading::Passed => read_whole(bytes),
-    }
+    judge_heading(bytes)?;
+    read_whole(bytes)
 }
 
 // Rules 2 to 4, on the header alone.
-pub(crate) fn judge_heading(bytes: &[u8]) -> Heading
+#[tactic(auto, unfolding(crate::specs::Heading::heading))]
+pub(crate) fn judge_heading(bytes: &[u8]) -> Result<(), Refusal>
     requires { header_size ≤ length bytes.now }
     ensures { told_heading result ≡ heading bytes.now }
 {
     if bytes[Envelope::VERSION_PLACE] != Envelope::HEADER_VERSION {
-        return Heading::Refused(Refusal {
+        return Err(Refusal {
             fault: Fault::WrongVersion,
             place: Envelope::VERSION_PLACE,
         });
     }
     if flags::bad_flags(bytes[Envelope::FLAGS_PLACE]) {
-        return Heading::Refused(Refusal {
+        return Err(Refusal {
             fault: Fault::BadFlags,
             place: Envelope::FLAGS_PLACE,
         });
     }
     if bad_variable_size(bytes[Envelope::VARIABLE_SIZE_PLACE]) {
-        return Heading::Refused(Refusal {
+        return Err(Refusal {
             fault: Fault::BadVariableSize,
             place: Envelope::VARIABLE_SIZE_PLACE,
         });
     }
-    Heading::Passed
+    Ok(())
 }
 
 // Rules 5 to 7, on the whole message.
-fn read_whole(bytes: &[u8]) -> Reading
+fn read_whole(bytes: &[u8]) -> Result<Envelope, Refusal>
     requires { (least_size ≤ length bytes.now) × (heading bytes.now ≡ passed) }
     ensures { told result ≡ reading_whole bytes.now }
 {
-    let v = wide(bytes[Envelope::VARIABLE_SIZE_PLACE]) as usize;
-    let d = three_at(bytes, Envelope::DATA_LENGTH_PLACE) as usize;
-    let place = Envelope::HEADER_SIZE + v + d;
-    if place + Envelope::FIELD_SIZE != bytes.len() {
-        return Reading::Refused(Refusal {
+    if announced_length(bytes) != bytes.len() {
+        return Err(Refusal {
             fault: Fault::WrongLength,
             place: Envelope::DATA_LENGTH_PLACE,
         });
     }
-    match addressing_of(bytes, v) {
-        FoundAddressing::Refused => Reading::Refused(Refusal {
-            fault: Fault::BadAddresses,
-            place: Envelope::ADDRESSES_PLACE,
-        }),
-        FoundAddressing::Good(addressing) => {
-            match integrity_of(bytes, flags::kind(bytes[Envelope::FLAGS_PLACE]), place) {
-                FoundIntegrity::Refused => Reading::Refused(Refusal {
-                    fault: Fault::BadIntegrity,
-                    place,
-                }),
-                FoundIntegrity::Good(integrity) => {
-                    let body = Part {
-                        place: Envelope::HEADER_SIZE + v,
-                        size: d,
-                    };
-                    Reading::Accepted(Envelope::new(header_of(bytes), addressing, body, integrity))
-                }
-            }
-        }
-    }
+    let v = usize::from(bytes[Envelope::VARIABLE_SIZE_PLACE]);
+    let addressing = addressing_of(bytes, v)?;
+    let place = bytes.len() - Envelope::FIELD_SIZE;
+    let integrity = integrity_of(bytes, flags::kind(bytes[Envelope::FLAGS_PLACE]), place)?;
+    let body_place = Envelope::HEADER_SIZE + v;
+    let body = Part {
+        place: body_place,
+        size: place - body_place,
+    };
+    Ok(Envelope::new(header_of(bytes), addressing, body, integrity))
 }
 
+// 17 + V + D + 4
+#[tactic(auto, unfolding(crate::specs::Heading::announced))]
+pub(crate) fn announced_length(bytes: &[u8]) -> usize
+    requires { header_size ≤ length bytes.now }
+    ensures { result ≡ announced bytes.now }
+{
+    let v = usize::from(bytes[Envelope::VARIABLE_SIZE_PLACE]);
+    let d = three_at(bytes, Envelope::DATA_LENGTH_PLACE) as usize;
+    Envelope::HEADER_SIZE + v + d + Envelope::FIELD_SIZE
+}
+
+#[tactic(auto, unfolding(crate::specs::Reading::header_of))]
 fn header_of(bytes: &[u8]) -> Header
     requires { header_size ≤ length bytes.now }
     ensures { told_header result ≡ header_of bytes.now }
@@ -135,31 +129,9 @@ fn header_of(bytes: &[u8]) -> Header
 }
 
 // Rule 4.
+#[tactic(auto, unfolding(crate::specs::Heading::bad_variable_size))]
 fn bad_variable_size(v: u8) -> bool
     ensures { result ≡ bad_variable_size v }
 {
-    if v == 0 {
-        return false;
-    }
-    if (v as usize) < Envelope::SMALLEST_VARIABLE {
-        return true;
-    }
-    Envelope::LARGEST_VARIABLE < v as usize
-}
-
-impl Fault {
-    // The number of the table of refusals.
-    pub fn number(self) -> u8
-        ensures { NumbersFault self result }
-    {
-        match self {
-            Fault::TooShort => 1,
-            Fault::WrongVersion => 2,
-            Fault::BadFlags => 3,
-            Fault::BadVariableSize => 4,
-            Fault::WrongLength => 5,
-            Fault::BadAddresses => 6,
-            Fault::BadIntegrity => 7,
-        }
-    }
+    v != 0 && !(Envelope::SMALLEST_VARIABLE..=Envelope::LARGEST_VARIABLE).contains(&usize::from(v))
 }

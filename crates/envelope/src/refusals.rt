@@ -11,19 +11,20 @@ pub struct Numbers {
     pub place: usize,
 }
 
-impl Numbers {
-    // Of a refusal of reading itself, whose number is its own.
-    pub fn by_reading(refusal: Refusal) -> Numbers
-        ensures { NumbersByReading refusal result }
-    {
-        let fault = refusal.fault;
+// Of a refusal of reading itself, whose number is its own.
+impl From<Refusal> for Numbers {
+    ghost from_gives = { NumbersByReading };
+
+    fn from(refusal: Refusal) -> Numbers {
         Numbers {
-            number: fault.number(),
+            number: u8::from(refusal.fault),
             reading: 0,
             place: refusal.place,
         }
     }
+}
 
+impl Numbers {
     // Of a refusal in which reading had no part.
     pub fn plainly(number: u8) -> Numbers
         ensures { NumbersPlainly number result }
@@ -39,10 +40,9 @@ impl Numbers {
     pub fn passing_on(number: u8, refusal: Refusal) -> Numbers
         ensures { NumbersPassingOn number refusal result }
     {
-        let fault = refusal.fault;
         Numbers {
             number,
-            reading: fault.number(),
+            reading: u8::from(refusal.fault),
             place: refusal.place,
         }
     }

@@ -1,223 +1,162 @@
 // Writing: what a sender gives, as a message at the front of a lent buffer.
 // First the whole answer is judged, with nothing written; only a message that fits is put down.
 ghost use Rattle.std.specs.Prelude.{◌≡◌, ◌+◌, ◌<◌, ◌≤◌, [], ◌∷◌, ◌++◌, length};
-ghost use Rattle.envelope.specs.Helpers.{Allowed, pasted, variable_length};
+ghost use Rattle.envelope.specs.Flags.{told_kind};
+ghost use Rattle.envelope.specs.Helpers.{Allowed, pasted, variable_of_length};
 ghost use Rattle.envelope.specs.Layout.{header_size, largest_variable, largest_address, largest_body};
-ghost use Rattle.envelope.specs.Message.{header_bytes, variable_bytes, before_field, field_number, message};
+ghost use Rattle.envelope.specs.Message.{header_bytes, variable_of, before_field, field_number, message};
 ghost use Rattle.envelope.specs.Told.{told_header};
-ghost use Rattle.envelope.specs.Writing.{bad_end, bad_ends, stray_integrity, writing, answer_to_writing, told_routing, told_writing, NumbersWriteFault, given, Writes};
+ghost use Rattle.envelope.specs.Writing.{bad_end, bad_ends, stray_integrity, writing, answer_to_writing, told_given, told_writing, NumbersWriteFault, Writes};
 
-use crate::addresses::first_zero;
-use crate::fields::{Envelope, Header};
+use crate::fields::{Envelope, Header, Kind};
 use crate::flags;
 use crate::numbers::{four_digits, three_digits, two_digits};
 
+// The front of a variable header.
 #[derive(Clone, Copy)]
-pub enum Routing {
-    Absent,
-    Present { ttl: u16, qos: u16 },
+pub struct Routing {
+    pub ttl: u16,
+    pub qos: u16,
 }
 
-// The refusals of writing, in their order.
+// What a sender gives: the ends without their zeros, and an application's integrity number.
+#[derive(Clone, Copy)]
+pub struct Given<'a> {
+    pub header: Header,
+    pub routing: Option<Routing>,
+    pub source: &'a [u8],
+    pub destination: &'a [u8],
+    pub body: &'a [u8],
+    pub application: u32,
+}
+
+// The refusals of writing, in their order, each with its number in the table of refusals.
 #[derive(Clone, Copy)]
 pub enum WriteFault {
-    BadFlags,
-    BadAddresses,
-    BodyTooLong,
-    StrayIntegrity,
-    NoRoom,
+    BadFlags = 11,
+    BadAddresses = 12,
+    BodyTooLong = 13,
+    StrayIntegrity = 14,
+    NoRoom = 15,
 }
 
-#[derive(Clone, Copy)]
-pub enum Writing {
-    Written(usize),
-    Refused(WriteFault),
+impl From<WriteFault> for u8 {
+    ghost from_gives = { NumbersWriteFault };
+
+    fn from(fault: WriteFault) -> u8 {
+        fault as u8
+    }
 }
 
-pub fn write(
-    header: Header,
-    routing: Routing,
-    source: &[u8],
-    destination: &[u8],
-    body: &[u8],
-    application: u32,
-    buffer: &mut [u8],
-) -> Writing
-    ensures { Writes (given header routing source.now destination.now body.now application) buffer.old result buffer.new }
+pub fn write(given: Given<'_>, buffer: &mut [u8]) -> Result<usize, WriteFault>
+    ensures { Writes (told_given given.entry) buffer.old result buffer.new }
 {
-    match judge(
-        header,
-        routing,
-        source,
-        destination,
-        body,
-        application,
-        buffer.len(),
-    ) {
-        Writing::Refused(fault) => Writing::Refused(fault),
-        Writing::Written(size) => {
-            fill(
-                header,
-                routing,
-                source,
-                destination,
-                body,
-                application,
-                buffer,
-            );
-            Writing::Written(size)
+    let size = given.judge(buffer.len())?;
+    given.fill(buffer);
+    Ok(size)
+}
+
+impl Given<'_> {
+    // The answer, with nothing written.
+    #[tactic(auto, unfolding(crate::specs::Writing::writing))]
+    fn judge(self, room: usize) -> Result<usize, WriteFault>
+        ensures { told_writing result ≡ answer_to_writing (writing (told_given self.entry) room) }
+    {
+        if flags::bad_flags(self.header.flags) {
+            return Err(WriteFault::BadFlags);
+        }
+        if self.bad_ends() {
+            return Err(WriteFault::BadAddresses);
+        }
+        if Envelope::LARGEST_BODY < self.body.len() {
+            return Err(WriteFault::BodyTooLong);
+        }
+        if stray_integrity(self.application, flags::kind(self.header.flags)) {
+            return Err(WriteFault::StrayIntegrity);
+        }
+        let variable = self.variable_length();
+        let size = Envelope::HEADER_SIZE + variable + self.body.len() + Envelope::FIELD_SIZE;
+        if room < size {
+            return Err(WriteFault::NoRoom);
+        }
+        Ok(size)
+    }
+
+    // Rule 12.
+    fn bad_ends(self) -> bool
+        ensures { result ≡ bad_ends (told_given self.entry).routing (told_given self.entry).source (told_given self.entry).destination }
+    {
+        bad_end(self.source)
+            || bad_end(self.destination)
+            || self.routing.is_none() && !(self.source.is_empty() && self.destination.is_empty())
+    }
+
+    // The size of the variable header.
+    fn variable_length(self) -> usize
+        requires { (length self.source.now < largest_address) × (length self.destination.now < largest_address) }
+        ensures { (result ≡ variable_of_length (told_given self.entry)) × (result ≤ largest_variable) }
+    {
+        match self.routing {
+            None => 0,
+            Some(_) => Envelope::ROUTING_SIZE + self.source.len() + 1 + self.destination.len() + 1,
         }
     }
-}
 
-// The answer, with nothing written.
-fn judge(
-    header: Header,
-    routing: Routing,
-    source: &[u8],
-    destination: &[u8],
-    body: &[u8],
-    application: u32,
-    room: usize,
-) -> Writing
-    ensures { told_writing result ≡ answer_to_writing (writing (given header routing source.now destination.now body.now application) room) }
-{
-    if flags::bad_flags(header.flags) {
-        return Writing::Refused(WriteFault::BadFlags);
+    // The whole message, at the front of a buffer that has room for it.
+    fn fill(self, buffer: &mut [u8])
+        requires { Allowed (told_given self) (length buffer.old) }
+        ensures { buffer.new ≡ pasted buffer.old 0 (message (told_given self.entry)) }
+    {
+        let end = self.put_before_field(buffer);
+        let kind = flags::kind(self.header.flags);
+        let number = field_number(kind, self.application, &buffer[..end]);
+        put(buffer, end, &four_digits(number));
     }
-    if bad_ends(routing, source, destination) {
-        return Writing::Refused(WriteFault::BadAddresses);
-    }
-    if Envelope::LARGEST_BODY < body.len() {
-        return Writing::Refused(WriteFault::BodyTooLong);
-    }
-    if stray_integrity(application, flags::kind(header.flags)) {
-        return Writing::Refused(WriteFault::StrayIntegrity);
-    }
-    let variable = variable_length(routing, source.len(), destination.len());
-    let size = Envelope::HEADER_SIZE + variable + body.len() + Envelope::FIELD_SIZE;
-    if room < size {
-        return Writing::Refused(WriteFault::NoRoom);
-    }
-    Writing::Written(size)
-}
 
-// Rule 12.
-fn bad_ends(routing: Routing, source: &[u8], destination: &[u8]) -> bool
-    ensures { result ≡ bad_ends (told_routing routing) source.now destination.now }
-{
-    if bad_end(source) {
-        return true;
+    // All that stands before the integrity field; answers where that field begins.
+    fn put_before_field(self, buffer: &mut [u8]) -> usize
+        requires { Allowed (told_given self) (length buffer.old) }
+        ensures { (result ≡ header_size + variable_of_length (told_given self.entry) + length (told_given self.entry).body)
+            × (buffer.new ≡ pasted buffer.old 0 (before_field (told_given self.entry))) }
+    {
+        let front = header_digits(self.header, self.variable_length(), self.body.len());
+        let variable_place = put(buffer, 0, &front);
+        let body_place = self.put_variable(buffer, variable_place);
+        put(buffer, body_place, self.body)
     }
-    if bad_end(destination) {
-        return true;
-    }
-    match routing {
-        Routing::Absent => {
-            if source.len() != 0 {
-                return true;
+
+    fn put_variable(self, buffer: &mut [u8], place: usize) -> usize
+        requires { place + variable_of_length (told_given self) ≤ length buffer.old }
+        ensures { (result ≡ place + variable_of_length (told_given self.entry))
+            × (buffer.new ≡ pasted buffer.old place (variable_of (told_given self.entry))) }
+    {
+        match self.routing {
+            None => place,
+            Some(routing) => {
+                let qos_place = put(buffer, place, &two_digits(routing.ttl));
+                let source_place = put(buffer, qos_place, &two_digits(routing.qos));
+                let destination_place = put_end(buffer, source_place, self.source);
+                put_end(buffer, destination_place, self.destination)
             }
-            destination.len() != 0
         }
-        Routing::Present { ttl: _, qos: _ } => false,
     }
 }
 
+#[tactic(auto, unfolding(crate::specs::Writing::bad_end))]
 fn bad_end(end: &[u8]) -> bool
     ensures { result ≡ bad_end end.now }
 {
-    if Envelope::LARGEST_ADDRESS <= end.len() {
-        return true;
-    }
-    first_zero(end) < end.len()
+    Envelope::LARGEST_ADDRESS <= end.len() || end.contains(&0)
 }
 
 // Rule 14.
-fn stray_integrity(application: u32, kind: u8) -> bool
-    ensures { result ≡ stray_integrity application kind }
+#[tactic(auto, unfolding(crate::specs::Writing::stray_integrity))]
+fn stray_integrity(application: u32, kind: Kind) -> bool
+    ensures { result ≡ stray_integrity application (told_kind kind) }
 {
-    if application == 0 {
-        return false;
-    }
-    if kind == flags::KIND_NONE {
-        return true;
-    }
-    kind == flags::KIND_CRC
-}
-
-// The size of the variable header, for ends of these sizes.
-fn variable_length(routing: Routing, source: usize, destination: usize) -> usize
-    requires { (source < largest_address) × (destination < largest_address) }
-    ensures { (result ≡ variable_length (told_routing routing) source destination) × (result ≤ largest_variable) }
-{
-    match routing {
-        Routing::Absent => 0,
-        Routing::Present { ttl: _, qos: _ } => {
-            Envelope::ROUTING_SIZE + (source + 1 + (destination + 1))
-        }
-    }
-}
-
-// The whole message, at the front of a buffer that has room for it.
-fn fill(
-    header: Header,
-    routing: Routing,
-    source: &[u8],
-    destination: &[u8],
-    body: &[u8],
-    application: u32,
-    buffer: &mut [u8],
-) -> usize
-    requires { Allowed (told_routing routing) (length source.now) (length destination.now) (length body.now) (length buffer.old) }
-    ensures { buffer.new ≡ pasted buffer.old 0 (message (given header routing source.now destination.now body.now application)) }
-{
-    let end = put_before_field(header, routing, source, destination, body, buffer);
-    let number = field_number(flags::kind(header.flags), application, &buffer[..end]);
-    let field = four_digits(number);
-    put(buffer, end, &field)
-}
-
-// All that stands before the integrity field; answers where that field begins.
-fn put_before_field(
-    header: Header,
-    routing: Routing,
-    source: &[u8],
-    destination: &[u8],
-    body: &[u8],
-    buffer: &mut [u8],
-) -> usize
-    requires { Allowed (told_routing routing) (length source.now) (length destination.now) (length body.now) (length buffer.old) }
-    ensures { (result ≡ header_size + variable_length (told_routing routing) (length source.now) (length destination.now) + length body.now)
-        × (buffer.new ≡ pasted buffer.old 0 (before_field (given header routing source.now destination.now body.now 0))) }
-{
-    let variable = variable_length(routing, source.len(), destination.len());
-    let front = header_digits(header, variable, body.len());
-    let variable_place = put(buffer, 0, &front);
-    let body_place = put_variable(buffer, variable_place, routing, source, destination);
-    put(buffer, body_place, body)
-}
-
-fn put_variable(
-    buffer: &mut [u8],
-    place: usize,
-    routing: Routing,
-    source: &[u8],
-    destination: &[u8],
-) -> usize
-    requires { place + variable_length (told_routing routing) (length source.now) (length destination.now) ≤ length buffer.old }
-    ensures { (result ≡ place + variable_length (told_routing routing) (length source.now) (length destination.now))
-        × (buffer.new ≡ pasted buffer.old place (variable_bytes (told_routing routing) source.now destination.now)) }
-{
-    match routing {
-        Routing::Absent => place,
-        Routing::Present { ttl, qos } => {
-            let ttl = two_digits(ttl);
-            let qos = two_digits(qos);
-            let front = [ttl[0], ttl[1], qos[0], qos[1]];
-            let source_place = put(buffer, place, &front);
-            let destination_place = put_end(buffer, source_place, source);
-            put_end(buffer, destination_place, destination)
-        }
+    match kind {
+        Kind::None | Kind::Crc => application != 0,
+        Kind::Application | Kind::Unassigned => false,
     }
 }
 
@@ -227,8 +166,7 @@ fn put_end(buffer: &mut [u8], place: usize, end: &[u8]) -> usize
     ensures { (result ≡ place + (length end.now + 1)) × (buffer.new ≡ pasted buffer.old place (end.now ++ 0 ∷ [])) }
 {
     let zero = put(buffer, place, end);
-    buffer[zero] = 0;
-    zero + 1
+    put(buffer, zero, &[0])
 }
 
 // Copies a part into the buffer from a place, and answers the place after it.
@@ -236,12 +174,9 @@ fn put(buffer: &mut [u8], place: usize, part: &[u8]) -> usize
     requires { place + length part.now ≤ length buffer.old }
     ensures { (result ≡ place + length part.now) × (buffer.new ≡ pasted buffer.old place part.now) }
 {
-    let mut i = 0;
-    while i < part.len() {
-        buffer[place + i] = part[i];
-        i += 1;
-    }
-    place + i
+    let end = place + part.len();
+    buffer[place..end].copy_from_slice(part);
+    end
 }
 
 fn header_digits(header: Header, v: usize, d: usize) -> [u8; Envelope::HEADER_SIZE]
@@ -273,29 +208,14 @@ fn header_digits(header: Header, v: usize, d: usize) -> [u8; Envelope::HEADER_SI
     ]
 }
 
-fn field_number(kind: u8, application: u32, before: &[u8]) -> u32
-    ensures { result ≡ field_number kind application before.now }
+#[tactic(auto, unfolding(crate::specs::Message::field_number))]
+fn field_number(kind: Kind, application: u32, before: &[u8]) -> u32
+    ensures { result ≡ field_number (told_kind kind) application before.now }
 {
-    if kind == flags::KIND_NONE {
-        return 0;
-    }
-    if kind == flags::KIND_CRC {
-        return sum::crc(before);
-    }
-    application
-}
-
-impl WriteFault {
-    // The number of the table of refusals.
-    pub fn number(self) -> u8
-        ensures { NumbersWriteFault self result }
-    {
-        match self {
-            WriteFault::BadFlags => 11,
-            WriteFault::BadAddresses => 12,
-            WriteFault::BodyTooLong => 13,
-            WriteFault::StrayIntegrity => 14,
-            WriteFault::NoRoom => 15,
-        }
+    match kind {
+        Kind::None => 0,
+        Kind::Crc => sum::crc(before),
+        // Rule 3 has refused a kind that is not assigned.
+        Kind::Application | Kind::Unassigned => application,
     }
 }

@@ -1,28 +1,23 @@
 -- `rewriter::rewrite`: a refusal of reading is passed on, and writing again can only want room.
-use Rattle.std.proofs.Common.{◌≡◌, sym, ap, ◌∙◌}
-use Rattle.envelope.proofs.RewriteLaws.{rewrote_it, no_room_lem}
-use Rattle.envelope.specs.Fields.{accepted}
-use Rattle.envelope.specs.Reading.{reading}
-use Rattle.envelope.specs.Told.{told, told_envelope}
-use Rattle.envelope.specs.Writing.{told_writing}
+use Rattle.std.proofs.Common.{◌≡◌, ℕ, sym, ap, rules}
+use Rattle.std.specs.Prelude.{Result, Ok, Err}
+use Rattle.std.specs.Result.{MatchResult, IsErrAnd}
+use Rattle.envelope.proofs.RewriteLaws.{again}
+use Rattle.envelope.specs.Writing.{Writes}
+use Rattle.envelope.specs.declared.rewriter.RewriteFault.{RewriteFault}
+use Rattle.envelope.specs.declared.rewriter.RewriteFault.TheVariants.{NoRoom}
+use Rattle.envelope.specs.declared.writer.WriteFault.{WriteFault}
 use Rattle.envelope.proofs.rewriter.rewrite.Goals as goal
-use Rattle.envelope.proofs.rewriter.rewrite.Goals.{In-Accepted}
 
--- the message is accepted with the fields of this envelope
-read_it : (c : In-Accepted) → reading c.args.bytes.now ≡ accepted (told_envelope c.in-Accepted.envelope)
-read_it c = sym (ap told (sym c.in-Accepted.is) ∙ c.read.ensures)
+-- the closure answers want of room, whatever it was given
+mapped : (w : Result ℕ WriteFault) (r : Result ℕ RewriteFault) {P : WriteFault → RewriteFault → Type 0} → ((e : WriteFault) (f : RewriteFault) → P e f → f ≡ NoRoom)
+    → MatchResult w (λ n. r ≡ Ok n) (λ e. IsErrAnd r (λ f. P e f)) → MatchResult w (λ n. r ≡ Ok n) (λ e. r ≡ Err NoRoom)
+mapped (Ok n) r k h = h
+mapped (Err e) (Ok n) k h = absurd h
+mapped (Err e) (Err f) k h = ap Err (k e f h)
 
-pub returns-in-Refused : goal.returns-in-Refused
-returns-in-Refused c =
-    let e = ap told (sym c.in-Refused.is) ∙ c.read.ensures in
-    (rw (← e), rw (← e))
-
-pub returns-in-Written : goal.returns-in-Written
-returns-in-Written c =
-    rewrote_it c.args.bytes.now _ c.args.buffer.now _ (λ k. (c.type_inv.bytes k).fits) (read_it (goal.at.returns-in-Written c).In-Accepted)
-    c.write_again.ensures.1 _ (ap told_writing (sym c.in-Written.is) ∙ c.write_again.ensures.0)
-
-pub returns-in-Refused-write_again : goal.returns-in-Refused-write_again
-returns-in-Refused-write_again c =
-    no_room_lem c.args.bytes.now _ c.args.buffer.now _ (λ k. (c.type_inv.bytes k).fits) (read_it (goal.at.returns-in-Refused-write_again c).In-Accepted)
-    c.write_again.ensures.1 _ (ap told_writing (sym c.in-Refused-write_again.is) ∙ c.write_again.ensures.0)
+pub returns : goal.returns
+returns c =
+    let w : Writes _ c.args.buffer.now c.write.result c.write.new.buffer = rw c.given_by.ensures at c.write.ensures in
+    again c.args.bytes.now _ c.args.buffer.now _ (λ k. (c.type_inv.bytes k).fits) (sym c.in_ok-envelope.ensures)
+    w.1 _ _ (mapped c.write.result c.map_err.result (λ e f p. search rules) c.map_err.ensures.cases) w.0
