@@ -3,11 +3,11 @@
 use mathlib.Core.Bool.{Bool, true, false, cond}
 use mathlib.Core.List.{List}
 use mathlib.Core.Path.{◌≡◌, refl, ap, sym, ◌∙◌}
-use Prim.Native.Nat.{ℕ, ◌+◌, ◌<◌}
+use Prim.Native.Nat.{ℕ, ◌+◌, ◌<◌, max}
 use native.Mathlib.Omega.{arith}
-use borrow.Author.Tests.{eq-eqb, ne_eqb}
-use lib.Dec.{ltb}
+use lib.Dec.{eqb}
 use lib.ListN.{length}
+use Rattle.std.proofs.lemmas.Bool.Decides.{nat_tests}
 use Rattle.envelope.specs.Fields.{Span, Fields}
 use Rattle.envelope.specs.Reading.{reading}
 use Rattle.envelope.specs.Refusals.{Refused, plainly}
@@ -24,21 +24,17 @@ marked b x t l l' s e h q = let f : b ≡ true = sym e ∙ h in (rw f, rw f q)
 pub passed_over : (b x : Bool) (t : ℕ) (l s : List ℕ) → x ≡ b → x ≡ false → (t ≡ cond b (t + 1) t) × (l ≡ cond b s l)
 passed_over b x t l s e h = let f : b ≡ false = sym e ∙ h in (rw f, rw f)
 
+pub longer_is : (g r : List ℕ) → max (length g) (length r) ≡ longer g r
+longer_is g r = grind (arith, nat_tests)
+
 pub longer_below : (g r : List ℕ) (m : ℕ) → length g < m → length r < m → longer g r < m
-longer_below g r m h k = below_both (ltb (length g) (length r))
-  where
-    below_both : (b : Bool) → cond b (length r) (length g) < m
-    below_both true = k
-    below_both false = h
+longer_below g r m h k = rw (← longer_is g r) (omega (arith, h, k))
 
-module _ (g r l l' : List ℕ) (t : ℕ) (q : t ≡ length (differing g r)) (s : l' ≡ noted (differing g r) l) where
-  pub is_same : t ≡ 0 → (same ≡ answer_to_comparing (positions (differing g r))) × (l' ≡ after_comparing (positions (differing g r)) l)
-  unfolding answer_to_comparing after_comparing
-  is_same z = (rw (← q, eq-eqb _ _ z), s)
-
-  pub is_different : (t ≡ 0 → ⊥) → (different t ≡ answer_to_comparing (positions (differing g r))) × (l' ≡ after_comparing (positions (differing g r)) l)
-  unfolding answer_to_comparing after_comparing
-  is_different z = (rw (← q, ne_eqb _ _ z), s)
+-- the answer by the total of the positions
+pub totalled : (ks l l' : List ℕ) (t : ℕ) → t ≡ length ks → l' ≡ noted ks l
+    → (cond (eqb t 0) same (different t) ≡ answer_to_comparing (positions ks)) × (l' ≡ after_comparing (positions ks) l)
+unfolding answer_to_comparing after_comparing
+totalled ks l l' t e n = (rw e, n)
 
 -- ---- comparing a record, from the answer of a step
 

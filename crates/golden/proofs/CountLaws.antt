@@ -8,32 +8,34 @@ use native.Mathlib.Decide.{dec_lt}
 use native.Mathlib.Numerals.{add-one}
 use native.Mathlib.Omega.{arith}
 use lib.ListN.{drop}
+use Rattle.std.specs.Prelude.{Result, Ok, Err, MatchResult}
 use Rattle.envelope.specs.Fields.{Fields, Answer, accepted}
 use Rattle.envelope.specs.Fields as envelope
 use Rattle.envelope.specs.Reading.{reading}
 use Rattle.envelope.specs.Refusals.{plainly}
 use Rattle.golden.specs.File.{most_records, bad_file, count_of, record_at, judged_at}
-use Rattle.golden.specs.Helpers.{opened_as, opening, opened_retired}
+use Rattle.golden.specs.Helpers.{told_opening, opening}
 use Rattle.golden.specs.Listing.{counted, refused, one_if_retired, retired_below, counting_retired}
-use Rattle.golden.specs.Record.{head_size, stored_word, retired_mark, stored_length, all_zero, bad_length, Judged, good, bad, by_reading}
+use Rattle.golden.specs.Record.{head_size, stored_word, retired_mark, all_zero, bad_length, Judged, good, bad, by_reading}
 use Rattle.golden.specs.Retired.{RetiredOne, RetireCountsOne}
 use Rattle.golden.specs.WithoutMark.{message_before, judging_before, NoneRetired}
 use Rattle.golden.specs.Retiring.{marked}
 use Rattle.golden.specs.Theorems.{counted_number, RetiredAreFew}
+use Rattle.golden.specs.declared.record.GoodRecord.{GoodRecord}
+use Rattle.golden.specs.declared.refusal.Refusal.{Refusal}
 use Rattle.golden.proofs.FileLaws.{whole_file}
+use Rattle.golden.proofs.FindingLaws.{judged_bad, judged_good}
 use Rattle.golden.proofs.RetiredLaws.{same_or_not, same_count, same_whole, retire_marks_one}
 use Rattle.golden.proofs.RetiringLaws.{allowed}
 use Rattle.golden.proofs.WithoutMarkLaws.{judged_same}
 
 -- ---- as the loop meets it
 
-pub opened_retired_lem : (f : List ℕ) (n : ℕ) → opened_retired (opening (record_at f n)) ≡ one_if_retired (judged_at f n)
-unfolding opening judged_at
-opened_retired_lem f n = by (stored_length (record_at f n)) (judged_at f n)
-  where
-    by : (size : ℕ) (j : Judged) → opened_retired (opened_as size j) ≡ one_if_retired j
-    by size (good retired fields) = refl
-    by size (bad r) = refl
+-- an opened record is good and retired, or adds nothing
+pub one_or_none : (f : List ℕ) (n : ℕ) (o : Result GoodRecord Refusal) (b : Bool) (marks : GoodRecord → Type 0) → ((g : GoodRecord) → marks g → b ≡ g.retired)
+    → told_opening o ≡ opening (record_at f n) → MatchResult o marks (λ r. b ≡ false) → cond b 1 0 ≡ one_if_retired (judged_at f n)
+one_or_none f n (Ok g) b marks one e m = rw ((judged_good f n _ _ _ e).0, one g m)
+one_or_none f n (Err r) b marks one e m = rw (judged_bad f n _ e, m)
 
 pub none_below : (f : List ℕ) → 0 ≡ retired_below f 0
 unfolding retired_below

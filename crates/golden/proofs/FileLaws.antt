@@ -1,6 +1,6 @@
 -- A file and its records: what a whole file is, where its records and their bytes stand, and what a record's judgement says of them.
 -- For crates above, which cite these and open no definition of a file or a record.
-use mathlib.Core.Bool.{Bool, true, false, cond, not}
+use mathlib.Core.Bool.{Bool, true, false, cond, not, ◌&&◌}
 use mathlib.Core.List.{List, [], ◌∷◌}
 use mathlib.Core.Path.{◌≡◌, refl, ap, ap₂, sym, ◌∙◌, subst}
 use Prim.Native.Nat.{ℕ, ◌+◌, ◌*◌, ◌/◌, ◌%◌, ◌≤◌, ◌<◌}
@@ -10,6 +10,8 @@ use borrow.Author.Tests.{eqb-true, eq-eqb, ltb-false, le-ltb, not-false}
 use lib.Dec.{eqb, ltb}
 use lib.ListN.{length, drop}
 use lib.Seq.{ext_get_or, get_or-take, get_or-drop}
+use Rattle.std.specs.Prelude.{Result, Ok, Err, MatchResult, nat_lt}
+use Rattle.std.proofs.lemmas.Bool.Decides.{nat_tests}
 use Rattle.envelope.proofs.BoolLaws.{neither}
 use Rattle.envelope.proofs.RuleLaws.{two_at_is}
 use Rattle.envelope.specs.Fields.{Fields, Answer, accepted}
@@ -17,7 +19,9 @@ use Rattle.envelope.specs.Fields as envelope
 use Rattle.envelope.specs.Numbers.{byte_at, two_bytes}
 use Rattle.envelope.specs.Reading.{reading}
 use Rattle.envelope.specs.Refusals.{Refused, plainly, among, Gives}
-use Rattle.golden.specs.File.{most_records, largest_file, bad_file, count_of, record_at, judged_at}
+use Rattle.golden.specs.File.{most_records, largest_file, bad_file, count_of, not_there, record_at, judged_at}
+use Rattle.golden.specs.Listing.{counted, refused, counting, told_counting}
+use Rattle.golden.specs.declared.refusal.Refusal.{Refusal}
 use Rattle.golden.specs.Record.{record_size, head_size, message_room, stored_word, retired_mark, is_retired, stored_length, message_of, bad_length, not_clear, Judged, good, bad, by_reading, judging}
 use Rattle.golden.proofs.RecordLaws.{Good, good_record, record_good, record_long}
 
@@ -40,6 +44,32 @@ unfolding bad_file
 file_whole f w =
     let even : length f % record_size ≡ 0 = omega (arith, w.full) in
     rw (eq-eqb (length f % record_size) 0 even, le-ltb largest_file (length f) (omega (arith, w.full, w.few)))
+
+-- ---- the count, as it is answered
+
+module _ (f : List ℕ) where
+  pub counted_so : (n : ℕ) → counted n ≡ counting f → (bad_file f ≡ false) × (n ≡ count_of f)
+  unfolding counting
+  counted_so n e = by (bad_file f) e
+    where
+      by : (b : Bool) → counted n ≡ cond b (refused (plainly 21)) (counted (count_of f)) → (b ≡ false) × (n ≡ count_of f)
+      by true e = (cc, cc)
+      by false e = (refl, cc)
+
+  pub uncounted_so : (r : Refused) → refused r ≡ counting f → (bad_file f ≡ true) × (r ≡ plainly 21)
+  unfolding counting
+  uncounted_so r e = by (bad_file f) e
+    where
+      by : (b : Bool) → refused r ≡ cond b (refused (plainly 21)) (counted (count_of f)) → (b ≡ true) × (r ≡ plainly 21)
+      by true e = (refl, cc)
+      by false e = (cc, cc)
+
+pub has_record_lem : (f : List ℕ) (n : ℕ) (o : Result ℕ Refusal) (b : Bool) (below : ℕ → Type 0) → ((count : ℕ) → below count → b ≡ nat_lt n count)
+    → told_counting o ≡ counting f → MatchResult o below (λ r. b ≡ false) → b ≡ (not (bad_file f) && not (not_there f n))
+has_record_lem f n (Ok count) b below one e m =
+    let k = counted_so f count e in
+    rw (one count m, k.0, k.1) (grind (arith, nat_tests))
+has_record_lem f n (Err r) b below one e m = rw (m, (uncounted_so f _ e).0)
 
 -- ---- where records and their bytes stand
 

@@ -1,5 +1,6 @@
 pub mod RecordLaws
 pub mod FileLaws
+pub mod MappedLaws
 pub mod NameLaws
 pub mod PairingLaws
 pub mod BucketLaws
@@ -15,7 +16,6 @@ pub mod PassLaws
 pub mod MakingLaws
 pub mod RetiringLaws
 pub mod MarkedLaws
-pub mod RefusalLaws
 pub mod OnlyLaws
 pub mod WalkLaws
 pub mod FoundLaws

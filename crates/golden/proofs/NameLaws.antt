@@ -1,14 +1,12 @@
 -- Names: what a name says of the fields that have it, and where the name of a good record stands in its bytes.
 -- The message begins behind the stored length, and is long enough to hold type and number.
-use mathlib.Core.Bool.{Bool, true, false, not, ◌&&◌}
+use mathlib.Core.Bool.{Bool, true, not, ◌&&◌}
 use mathlib.Core.List.{List}
-use mathlib.Core.Path.{◌≡◌, refl, ap, ap₂, sym, ◌∙◌}
-use Prim.Native.Nat.{ℕ, ◌+◌, ◌-◌, ◌*◌, ◌<◌}
-use native.Mathlib.Nat.{add-sub_cancel_left}
+use mathlib.Core.Path.{◌≡◌, refl, ap₂, sym, ◌∙◌}
+use Prim.Native.Nat.{ℕ, ◌+◌, ◌<◌}
 use native.Mathlib.Omega.{arith}
-use borrow.Author.Tests.{eqb-true, eq-eqb, ne_eqb}
+use borrow.Author.Tests.{eqb-true, eq-eqb}
 use lib.Dec.{eqb}
-use lib.ListN.{take, drop}
 use Rattle.envelope.proofs.BoolLaws.{both}
 use Rattle.envelope.proofs.ReadingLaws.{accepted_type, accepted_number}
 use Rattle.envelope.proofs.RuleLaws.{two_at_is, four_at_is}
@@ -19,7 +17,7 @@ use Rattle.golden.specs.File.{record_at, judged_at}
 use Rattle.golden.specs.Finding.{NameFields, has_name, name_of}
 use Rattle.golden.specs.Helpers.{written_name, is_written}
 use Rattle.golden.specs.Pairing.{is_named}
-use Rattle.golden.specs.Record.{record_size, head_size, is_retired, message_of, good}
+use Rattle.golden.specs.Record.{head_size, is_retired, message_of, good}
 use Rattle.golden.specs.Theorems.{GoodAt}
 use Rattle.golden.proofs.FileLaws.{message_place, good_at}
 use Rattle.golden.proofs.RecordLaws.{Good}
@@ -77,23 +75,11 @@ named_by_bytes f name k g =
 
 -- ---- as the code reads it
 
-pub marked_retired : (name : NameFields) (r : List ℕ) → is_retired r ≡ true → false ≡ is_written name r
-marked_retired name r m = rw m
-
-module _ (name : NameFields) (r : List ℕ) (live : is_retired r ≡ false) (t : ℕ) (e : t ≡ two_bytes (byte_at r (head_size + type_place)) (byte_at r (head_size + type_place + 1))) where
-  type_read : two_at r (head_size + type_place) ≡ t
-  type_read = two_at_is r (head_size + type_place) ∙ sym e
-
-  pub other_type_lem : (t ≡ name.message_type → ⊥) → false ≡ is_written name r
-  other_type_lem ne = rw (live, type_read, ne_eqb t name.message_type ne)
-
-  pub same_type : t ≡ name.message_type → (n : ℕ)
-      → n ≡ four_bytes (byte_at r (head_size + number_place)) (byte_at r (head_size + number_place + 1)) (byte_at r (head_size + number_place + 2)) (byte_at r (head_size + number_place + 3))
-      → eqb n name.number ≡ is_written name r
-  same_type q n m =
-      rw (live, type_read, eq-eqb t name.message_type q) (ap (λ (x : ℕ). eqb x name.number) (m ∙ sym (four_at_is r (head_size + number_place))))
-
--- the part of 512 bytes that is lent is the record
-pub written_at : (f : List ℕ) (n : ℕ) (name : NameFields) (b : Bool) → b ≡ is_written name (take ((n * record_size + record_size) - n * record_size) (drop (n * record_size) f))
-    → b ≡ is_written name (record_at f n)
-written_at f n name b q = q ∙ ap (λ (k : ℕ). is_written name (take k (drop (n * record_size) f))) (add-sub_cancel_left (n * record_size) record_size)
+pub name_read : (r : List ℕ) (t n : ℕ)
+    → t ≡ two_bytes (byte_at r (head_size + type_place)) (byte_at r (head_size + type_place + 1))
+    → n ≡ four_bytes (byte_at r (head_size + number_place)) (byte_at r (head_size + number_place + 1)) (byte_at r (head_size + number_place + 2)) (byte_at r (head_size + number_place + 3))
+    → record { message_type = t; number = n } ≡ written_name r
+name_read r t n e f = λ i. record {
+  message_type = (e ∙ sym (two_at_is r (head_size + type_place))) i;
+  number = (f ∙ sym (four_at_is r (head_size + number_place))) i;
+}

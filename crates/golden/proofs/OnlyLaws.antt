@@ -3,10 +3,13 @@
 use mathlib.Core.Bool.{cond}
 use mathlib.Core.List.{List}
 use mathlib.Core.Path.{◌≡◌, refl, ap, sym, ◌∙◌}
-use Prim.Native.Nat.{ℕ}
+use Prim.Native.Nat.{ℕ, zero, suc}
 use denote.Ref.{Bor}
+use native.Mathlib.Omega.{arith}
+use borrow.Author.Tests.{ne_eqb}
 use lib.Dec.{eqb}
 use lib.ListN.{length}
+use Rattle.std.specs.Prelude.{Option, Some, None, Result, Ok, Err}
 use Rattle.envelope.proofs.OnlyLaws.{only_by_telling, untold_refusal, untold_refusal_lem, only_numbers}
 use Rattle.envelope.specs.Fields.{Span}
 use Rattle.envelope.specs.Promise.{Only₁, Only₂}
@@ -24,27 +27,14 @@ use Rattle.golden.specs.Refusal.{told_golden_refusal, NumbersGoldenRefusal}
 use Rattle.golden.specs.Retiring as retire
 use Rattle.golden.specs.Stepping as step
 use Rattle.golden.specs.Walking.{Begins, Walks}
-use Rattle.golden.specs.declared.checker.Checking.{Checking}
-use Rattle.golden.specs.declared.checker.Checking.TheVariants as checking
-use Rattle.golden.specs.declared.comparer.Comparison.{Comparison}
-use Rattle.golden.specs.declared.comparer.Comparison.TheVariants as comparison
-use Rattle.golden.specs.declared.finder.Finding.{Finding}
-use Rattle.golden.specs.declared.finder.Finding.TheVariants as finding
+use Rattle.golden.specs.declared.finder.Found.{Found}
 use Rattle.golden.specs.declared.finder.Name.{Name}
-use Rattle.golden.specs.declared.lister.Counting.{Counting}
-use Rattle.golden.specs.declared.lister.Counting.TheVariants as counting
+use Rattle.golden.specs.declared.finder.RefusedAfter.{RefusedAfter}
 use Rattle.golden.specs.declared.lister.Entry.{Entry}
-use Rattle.golden.specs.declared.lister.Entry.TheVariants as entry
-use Rattle.golden.specs.declared.orderer.Ordering.{Ordering}
-use Rattle.golden.specs.declared.orderer.Ordering.TheVariants as ordering
-use Rattle.golden.specs.declared.maker.Making.{Making}
-use Rattle.golden.specs.declared.maker.Making.TheVariants as making
 use Rattle.golden.specs.declared.refusal.Refusal.{Refusal}
 use Rattle.golden.specs.declared.refusal.Refusal.TheVariants.{NotAGoldenFile, NoRecord, BadLength, NotClear, RecordRefused, NameTaken, NotFound, RadioRefused, TooLong, MessageRefused, WrongBuffer, AlreadyRetired, WrongCopy, RecordRetired}
-use Rattle.golden.specs.declared.retirer.Retiring.{Retiring}
-use Rattle.golden.specs.declared.retirer.Retiring.TheVariants as retiring
-use Rattle.golden.specs.declared.stepper.Reached.{Reached}
-use Rattle.golden.specs.declared.stepper.Reached.TheVariants as reached
+use Rattle.golden.specs.declared.refusal.RefusedAt.{RefusedAt}
+use Rattle.golden.specs.declared.stepper.Stored.{Stored}
 use Rattle.golden.specs.declared.walker.Walk.{Walk}
 
 -- ---- a refusal
@@ -90,26 +80,26 @@ only_numbers_golden_refusal r = only_numbers (told_golden_refusal r)
 
 -- ---- check
 
-abbrev untold_checking : check.CheckAnswer → Checking
-untold_checking (check.counted n) = checking.Count n
-untold_checking (check.refused n r) = checking.Refused n (untold_golden_refusal r)
+abbrev untold_checking : check.CheckAnswer → Result ℕ RefusedAt
+untold_checking (check.counted n) = Ok n
+untold_checking (check.refused n r) = Err (record { «record» = n; refusal = untold_golden_refusal r })
 
-untold_checking_lem : (a : Checking) → untold_checking (check.told_checking a) ≡ a
-untold_checking_lem (checking.Count n) = refl
-untold_checking_lem (checking.Refused n r) = ap (checking.Refused n) (untold_golden_refusal_lem r)
+untold_checking_lem : (a : Result ℕ RefusedAt) → untold_checking (check.told_checking a) ≡ a
+untold_checking_lem (Ok n) = refl
+untold_checking_lem (Err at) = λ i. Err (record { «record» = at.record; refusal = untold_golden_refusal_lem at.refusal i })
 
 pub only_checks : (f : List ℕ) → Only₁ (check.Checks f)
 only_checks f = only_by_telling check.told_checking untold_checking untold_checking_lem (check.checking f)
 
 -- ---- find
 
-abbrev untold_finding : find.FindAnswer → Finding
-untold_finding (find.found n opened) = finding.Found n opened
-untold_finding (find.refused r opened) = finding.Refused (untold_golden_refusal r) opened
+abbrev untold_finding : find.FindAnswer → Result Found RefusedAfter
+untold_finding (find.found n opened) = Ok (record { «record» = n; opened = opened })
+untold_finding (find.refused r opened) = Err (record { refusal = untold_golden_refusal r; opened = opened })
 
-untold_finding_lem : (a : Finding) → untold_finding (find.told_finding a) ≡ a
-untold_finding_lem (finding.Found n opened) = refl
-untold_finding_lem (finding.Refused r opened) = λ i. finding.Refused (untold_golden_refusal_lem r i) opened
+untold_finding_lem : (a : Result Found RefusedAfter) → untold_finding (find.told_finding a) ≡ a
+untold_finding_lem (Ok found) = refl
+untold_finding_lem (Err after) = λ i. Err (record { refusal = untold_golden_refusal_lem after.refusal i; opened = after.opened })
 
 pub only_finds : (f : List ℕ) (name : Name) → Only₁ (find.Finds f name)
 only_finds f name = only_by_telling find.told_finding untold_finding untold_finding_lem (find.finding f (find.told_name name))
@@ -117,32 +107,32 @@ only_finds f name = only_by_telling find.told_finding untold_finding untold_find
 pub only_halves : (f : List ℕ) (name : Name) → Only₁ (Halves f name)
 only_halves f name = only_by_telling find.told_finding untold_finding untold_finding_lem (halving f (find.told_name name))
 
-abbrev untold_ordering : order.OrderAnswer → Ordering
-untold_ordering order.ascends = ordering.Ascends
-untold_ordering (order.breaks n) = ordering.Breaks n
-untold_ordering (order.refused n r) = ordering.Refused n (untold_golden_refusal r)
+abbrev untold_ordering : order.OrderAnswer → Result (Option ℕ) RefusedAt
+untold_ordering order.ascends = Ok None
+untold_ordering (order.breaks n) = Ok (Some n)
+untold_ordering (order.refused n r) = Err (record { «record» = n; refusal = untold_golden_refusal r })
 
-untold_ordering_lem : (a : Ordering) → untold_ordering (order.told_ordering a) ≡ a
-untold_ordering_lem ordering.Ascends = refl
-untold_ordering_lem (ordering.Breaks n) = refl
-untold_ordering_lem (ordering.Refused n r) = ap (ordering.Refused n) (untold_golden_refusal_lem r)
+untold_ordering_lem : (a : Result (Option ℕ) RefusedAt) → untold_ordering (order.told_ordering a) ≡ a
+untold_ordering_lem (Ok None) = refl
+untold_ordering_lem (Ok (Some n)) = refl
+untold_ordering_lem (Err at) = λ i. Err (record { «record» = at.record; refusal = untold_golden_refusal_lem at.refusal i })
 
 pub only_orders : (f : List ℕ) → Only₁ (order.Orders f)
 only_orders f = only_by_telling order.told_ordering untold_ordering untold_ordering_lem (order.ordering f)
 
 -- ---- step
 
-abbrev untold_reached : step.StepAnswer → Reached
-untold_reached (step.message retired p) = reached.Message (record { place = p.place; size = p.size }) retired
-untold_reached (step.refused r) = reached.Refused (untold_golden_refusal r)
-untold_reached step.end = reached.End
+abbrev untold_reached : step.StepAnswer → Result (Option Stored) Refusal
+untold_reached (step.message retired p) = Ok (Some (record { part = record { place = p.place; size = p.size }; retired = retired }))
+untold_reached (step.refused r) = Err (untold_golden_refusal r)
+untold_reached step.end = Ok None
 
-untold_reached_lem : (a : Reached) → untold_reached (step.told_reached a) ≡ a
-untold_reached_lem (reached.Message p retired) = refl
-untold_reached_lem (reached.Refused r) = ap reached.Refused (untold_golden_refusal_lem r)
-untold_reached_lem reached.End = refl
+untold_reached_lem : (a : Result (Option Stored) Refusal) → untold_reached (step.told_reached a) ≡ a
+untold_reached_lem (Ok (Some stored)) = refl
+untold_reached_lem (Ok None) = refl
+untold_reached_lem (Err r) = ap Err (untold_golden_refusal_lem r)
 
-pub only_reached : (f : List ℕ) (n : ℕ) → Only₁ (λ (a : Reached). step.told_reached a ≡ step.step_at f n)
+pub only_reached : (f : List ℕ) (n : ℕ) → Only₁ (λ (a : Result (Option Stored) Refusal). step.told_reached a ≡ step.step_at f n)
 only_reached f n = only_by_telling step.told_reached untold_reached untold_reached_lem (step.step_at f n)
 
 pub only_steps : (f : List ℕ) (n : ℕ) → Only₁ (step.Steps f n)
@@ -155,13 +145,13 @@ only_stores f n =
 
 -- ---- listing
 
-abbrev untold_counting : list.CountAnswer → Counting
-untold_counting (list.counted n) = counting.Count n
-untold_counting (list.refused r) = counting.Refused (untold_golden_refusal r)
+abbrev untold_counting : list.CountAnswer → Result ℕ Refusal
+untold_counting (list.counted n) = Ok n
+untold_counting (list.refused r) = Err (untold_golden_refusal r)
 
-untold_counting_lem : (a : Counting) → untold_counting (list.told_counting a) ≡ a
-untold_counting_lem (counting.Count n) = refl
-untold_counting_lem (counting.Refused r) = ap counting.Refused (untold_golden_refusal_lem r)
+untold_counting_lem : (a : Result ℕ Refusal) → untold_counting (list.told_counting a) ≡ a
+untold_counting_lem (Ok n) = refl
+untold_counting_lem (Err r) = ap Err (untold_golden_refusal_lem r)
 
 pub only_counts : (f : List ℕ) → Only₁ (list.Counts f)
 only_counts f = only_by_telling list.told_counting untold_counting untold_counting_lem (list.counting f)
@@ -169,28 +159,28 @@ only_counts f = only_by_telling list.told_counting untold_counting untold_counti
 pub only_counts_retired : (f : List ℕ) → Only₁ (list.CountsRetired f)
 only_counts_retired f = only_by_telling list.told_counting untold_counting untold_counting_lem (list.counting_retired f)
 
-abbrev untold_entry : list.EntryAnswer → Entry
-untold_entry (list.line t n size retired) = entry.Good t n size retired
-untold_entry (list.refused r) = entry.Refused (untold_golden_refusal r)
+abbrev untold_entry : list.EntryAnswer → Result Entry Refusal
+untold_entry (list.line t n size retired) = Ok (record { name = record { message_type = t; number = n }; size = size; retired = retired })
+untold_entry (list.refused r) = Err (untold_golden_refusal r)
 
-untold_entry_lem : (a : Entry) → untold_entry (list.told_entry a) ≡ a
-untold_entry_lem (entry.Good t n size retired) = refl
-untold_entry_lem (entry.Refused r) = ap entry.Refused (untold_golden_refusal_lem r)
+untold_entry_lem : (a : Result Entry Refusal) → untold_entry (list.told_entry a) ≡ a
+untold_entry_lem (Ok entry) = refl
+untold_entry_lem (Err r) = ap Err (untold_golden_refusal_lem r)
 
 pub only_enters : (f : List ℕ) (n : ℕ) → Only₁ (list.Enters f n)
 only_enters f n = only_by_telling list.told_entry untold_entry untold_entry_lem (list.entry_at f n)
 
 -- ---- compare: the answer and the whole list
 
-abbrev untold_comparison : compare.CompareAnswer → Comparison
-untold_comparison compare.same = comparison.Same
-untold_comparison (compare.different n) = comparison.Different n
-untold_comparison (compare.refused r) = comparison.Refused (untold_golden_refusal r)
+abbrev untold_comparison : compare.CompareAnswer → Result ℕ Refusal
+untold_comparison compare.same = Ok 0
+untold_comparison (compare.different n) = Ok n
+untold_comparison (compare.refused r) = Err (untold_golden_refusal r)
 
-untold_comparison_lem : (a : Comparison) → untold_comparison (compare.told_comparison a) ≡ a
-untold_comparison_lem comparison.Same = refl
-untold_comparison_lem (comparison.Different n) = refl
-untold_comparison_lem (comparison.Refused r) = ap comparison.Refused (untold_golden_refusal_lem r)
+untold_comparison_lem : (a : Result ℕ Refusal) → untold_comparison (compare.told_comparison a) ≡ a
+untold_comparison_lem (Ok zero) = refl
+untold_comparison_lem (Ok (suc n)) = rw (ne_eqb (suc n) 0 (λ e. omega (arith, e)))
+untold_comparison_lem (Err r) = ap Err (untold_golden_refusal_lem r)
 
 pub only_compares : (f : List ℕ) (n : ℕ) (radio entry : List ℕ) → Only₂ (compare.Compares f n radio entry)
 only_compares f n radio entry a b x y p q =
@@ -198,13 +188,13 @@ only_compares f n radio entry a b x y p q =
 
 -- ---- make: the answer and the whole buffer
 
-abbrev untold_making : make.MakeAnswer → Making
-untold_making make.made = making.Made
-untold_making (make.refused r) = making.Refused (untold_golden_refusal r)
+abbrev untold_making : make.MakeAnswer → Result (Unit {0}) Refusal
+untold_making make.made = Ok tt
+untold_making (make.refused r) = Err (untold_golden_refusal r)
 
-untold_making_lem : (a : Making) → untold_making (make.told_making a) ≡ a
-untold_making_lem making.Made = refl
-untold_making_lem (making.Refused r) = ap making.Refused (untold_golden_refusal_lem r)
+untold_making_lem : (a : Result (Unit {0}) Refusal) → untold_making (make.told_making a) ≡ a
+untold_making_lem (Ok u) = refl
+untold_making_lem (Err r) = ap Err (untold_golden_refusal_lem r)
 
 pub only_makes : (m entry : List ℕ) → Only₂ (make.Makes m entry)
 only_makes m entry a b x y p q =
@@ -212,13 +202,13 @@ only_makes m entry a b x y p q =
 
 -- ---- retire: the answer and the whole buffer
 
-abbrev untold_retiring : retire.RetireAnswer → Retiring
-untold_retiring retire.done = retiring.Done
-untold_retiring (retire.refused r) = retiring.Refused (untold_golden_refusal r)
+abbrev untold_retiring : retire.RetireAnswer → Result (Unit {0}) Refusal
+untold_retiring retire.done = Ok tt
+untold_retiring (retire.refused r) = Err (untold_golden_refusal r)
 
-untold_retiring_lem : (a : Retiring) → untold_retiring (retire.told_retiring a) ≡ a
-untold_retiring_lem retiring.Done = refl
-untold_retiring_lem (retiring.Refused r) = ap retiring.Refused (untold_golden_refusal_lem r)
+untold_retiring_lem : (a : Result (Unit {0}) Refusal) → untold_retiring (retire.told_retiring a) ≡ a
+untold_retiring_lem (Ok u) = refl
+untold_retiring_lem (Err r) = ap Err (untold_golden_refusal_lem r)
 
 pub only_retires : (f : List ℕ) (n : ℕ) (entry : List ℕ) → Only₂ (retire.Retires f n entry)
 only_retires f n entry a b x y p q =

@@ -1,17 +1,16 @@
--- Which case of `opening` holds, from the tests of `open` in their order; and a record of the file from its part.
+-- Which case of `opening` holds, from the tests of `open` in their order.
 -- The definitions are in specs/Helpers.
 use mathlib.Core.Bool.{Bool, true, false}
 use mathlib.Core.List.{List}
 use mathlib.Core.Path.{◌≡◌, ap, ◌∙◌}
-use Prim.Native.Nat.{ℕ, ◌+◌, ◌-◌, ◌*◌}
+use Prim.Native.Nat.{ℕ, ◌+◌, ◌-◌}
 use native.Mathlib.Nat.{add-sub_cancel_left}
 use lib.ListN.{length, take, drop}
 use Rattle.envelope.specs.Fields.{Answer}
 use Rattle.envelope.specs.Reading.{reading}
 use Rattle.envelope.specs.Refusals.{plainly}
-use Rattle.golden.specs.File.{record_at}
-use Rattle.golden.specs.Helpers.{Opened, bad, opened_as, opening}
-use Rattle.golden.specs.Record.{record_size, head_size, is_retired, stored_length, all_zero, bad_length, by_reading, judging}
+use Rattle.golden.specs.Helpers.{bad, opened_as, opening}
+use Rattle.golden.specs.Record.{head_size, is_retired, stored_length, all_zero, bad_length, by_reading, judging}
 use Rattle.golden.proofs.RecordLaws.{part_to_end}
 
 module _ (r : List ℕ) (l : ℕ) (e : l ≡ stored_length r) where
@@ -33,8 +32,3 @@ module _ (r : List ℕ) (l : ℕ) (e : l ≡ stored_length r) where
     opened_by n mark m a q =
         rw (← e, h, ← zeros, n, ← m)
         (ap (λ (x : Answer). opened_as l (by_reading mark x)) (q ∙ ap (λ (k : ℕ). reading (take k (drop head_size r))) (add-sub_cancel_left head_size l)))
-
--- the part of 512 bytes that is lent is the record
-pub opened_at : (f : List ℕ) (n : ℕ) (x : Opened) → x ≡ opening (take ((n * record_size + record_size) - n * record_size) (drop (n * record_size) f))
-    → x ≡ opening (record_at f n)
-opened_at f n x q = q ∙ ap (λ (k : ℕ). opening (take k (drop (n * record_size) f))) (add-sub_cancel_left (n * record_size) record_size)

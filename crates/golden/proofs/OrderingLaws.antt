@@ -1,25 +1,30 @@
 -- The order of a file: as the loop meets it; its ways to end; and that it is the order of find by halving, both ways.
 -- Inductions on the records that are left.
-use mathlib.Core.Bool.{Bool, true, false, cond, ◌||◌}
+use mathlib.Core.Bool.{Bool, true, false, cond, not, ◌&&◌, ◌||◌}
 use mathlib.Core.List.{List, [], ◌∷◌}
 use mathlib.Core.Path.{◌≡◌, refl, ap, sym, ◌∙◌, subst}
 use Prim.Native.Nat.{ℕ, zero, suc, ◌+◌, ◌-◌, ◌≤◌, ◌<◌}
 use native.Mathlib.Omega.{arith}
-use borrow.Author.Tests.{ne_eqb}
-use lib.Dec.{eqb}
+use lib.Dec.{eqb, ltb}
+use Rattle.std.proofs.lemmas.Bool.Decides.{nat_tests}
+use Rattle.std.specs.Ordering.{nat_cmp, ordering_then, is_le}
+use Rattle.std.specs.Prelude.{Option, Some, None, MatchOption}
 use Rattle.envelope.proofs.PassLaws.{On, on_plainly}
 use Rattle.envelope.specs.Fields.{Fields}
 use Rattle.envelope.specs.Refusals.{Refused, plainly, Gives}
 use Rattle.golden.specs.File.{most_records, bad_file, count_of, record_at, judged_at}
-use Rattle.golden.specs.Finding.{NameFields, name_of}
+use Rattle.golden.specs.Finding.{NameFields, name_of, told_name}
 use Rattle.golden.specs.Gives.{OrderGives}
 use Rattle.golden.specs.Halved.{Ascending, AscendsIsAscending, AscendingAscends, InOrderTo, OrderReason, no_golden_file, bad_there, breaks_there, all_in_order, OrderGivesItsReason, order_number, order_place, OrderNamesFew, OrderPointsShort, OrderPassesOn}
 use Rattle.golden.specs.Halving.{precedes}
+use Rattle.golden.specs.Listing.{counting}
+use Rattle.golden.specs.Listing as list
 use Rattle.golden.specs.Ordering.{OrderAnswer, ascends, breaks, refused, in_place, unless_out, order_from, ordering}
 use Rattle.golden.specs.Record.{message_room, message_of, Judged, good, bad}
 use Rattle.golden.specs.Theorems.{GoodAt}
+use Rattle.golden.specs.declared.finder.Name.{Name}
 use Rattle.golden.proofs.CheckedLaws.{checked_are_sound}
-use Rattle.golden.proofs.FileLaws.{whole_file, one_more, judged_gives, InJudged}
+use Rattle.golden.proofs.FileLaws.{whole_file, uncounted_so, one_more, judged_gives, InJudged}
 use Rattle.golden.proofs.HalvingLaws.{earlier, from_earlier, neighbours_suffice}
 use Rattle.golden.proofs.PassLaws.{bad_on}
 use Rattle.golden.proofs.PointLaws.{bad_points}
@@ -34,8 +39,14 @@ pub record NameAt (f : List ℕ) (k : ℕ) (name : NameFields) : Type 0 where
   pub named : name_of fields ≡ name
 
 -- so the one before record n, where there is one
-abbrev pub LastBefore : List ℕ → ℕ → NameFields → Type 0
-LastBefore f n last = (k : ℕ) → n ≡ suc k → NameAt f k last
+abbrev pub LastBefore : List ℕ → ℕ → Option Name → Type 0
+LastBefore f n None = n ≡ 0
+LastBefore f n (Some last) = (k : ℕ) × (n ≡ suc k) × NameAt f k (told_name last)
+
+-- none comes before each name
+abbrev pub comes_after : Option Name → NameFields → Bool
+comes_after None name = true
+comes_after (Some last) name = precedes (told_name last) name
 
 module _ (f : List ℕ) where
   pub order_21 : bad_file f ≡ true → refused 0 (plainly 21) ≡ ordering f
@@ -46,8 +57,8 @@ module _ (f : List ℕ) where
   unfolding ordering
   order_all h x e = rw h (sym e)
 
-  pub order_start : (count : ℕ) → order_from f 0 count ≡ order_from f 0 (count - 0)
-  order_start count = ap (order_from f 0) (omega arith)
+  pub order_uncounted : (r : Refused) → list.refused r ≡ counting f → refused 0 r ≡ ordering f
+  order_uncounted r e = let u = uncounted_so f r e in ap (refused 0) u.1 ∙ order_21 u.0
 
   pub order_on : (n count : ℕ) → n < count → (b : Bool) → in_place f n ≡ b → (j : Judged) → judged_at f n ≡ j
       → order_from f n (count - n) ≡ unless_out n b j (order_from f (n + 1) (count - (n + 1)))
@@ -60,13 +71,25 @@ module _ (f : List ℕ) where
   unfolding order_from
   order_end n count h = let k : count - n ≡ 0 = omega arith in rw k
 
-  pub placed : (n : ℕ) (last : NameFields) (retired : Bool) (fields : Fields) → judged_at f n ≡ good retired fields → LastBefore f n last
-      → in_place f n ≡ (eqb n 0 || precedes last (name_of fields))
+  pub placed : (n : ℕ) (last : Option Name) (retired : Bool) (fields : Fields) → judged_at f n ≡ good retired fields → LastBefore f n last
+      → in_place f n ≡ comes_after last (name_of fields)
   unfolding in_place
-  placed zero last retired fields e before = refl
-  placed (suc k) last retired fields e before =
-      let b = before k refl in
-      rw (b.judged, e, b.named, ne_eqb (suc k) 0 (λ q. omega arith))
+  placed n None retired fields e before = rw before
+  placed n (Some last) retired fields e before =
+      let b = before.2 in
+      let h = rw before.1 at e in
+      rw (before.1, b.judged, h, b.named)
+
+-- what the code's comparison of a name with the last says
+not_upto : (a b c d : ℕ) → (ltb b a || (eqb b a && ltb d c)) ≡ not (is_le (ordering_then (nat_cmp a b) (nat_cmp c d)))
+not_upto a b c d = grind (arith, nat_tests)
+
+pub after_so : (own : Name) (last : Option Name) (b : Bool) (upto : Name → Type 0)
+    → ((x : Name) → upto x → b ≡ is_le (ordering_then (nat_cmp own.message_type x.message_type) (nat_cmp own.number x.number)))
+    → MatchOption last (b ≡ false) upto → comes_after last (told_name own) ≡ not b
+unfolding precedes
+after_so own None b upto one m = rw m
+after_so own (Some last) b upto one m = rw (one last m) (not_upto own.message_type last.message_type own.number last.number)
 
 -- ---- its ways to end
 

@@ -2,10 +2,13 @@
 -- Inductions on the number.
 use mathlib.Core.Bool.{Bool, true, false, not}
 use mathlib.Core.Path.{◌≡◌, refl, ap, sym, ◌∙◌}
-use Prim.Native.Nat.{ℕ, zero, suc, ◌+◌, ◌≤◌, ◌<◌}
+use Prim.Native.Nat.{ℕ, zero, suc, ◌<◌}
 use native.Mathlib.Decide.{dec_lt}
-use native.Mathlib.Numerals.{add-one}
 use native.Mathlib.Omega.{arith}
+use Rattle.std.proofs.Common.{zero-add}
+use Rattle.std.proofs.lemmas.List.FromFn.{get_or-range_with_len, length-range_with_len}
+use Rattle.std.proofs.lemmas.List.Recursion.{or_is}
+use Rattle.std.specs.List.{list_any, range_with_len}
 use Rattle.envelope.proofs.BoolLaws.{neither, and-false, true_is_not_false}
 use Rattle.envelope.specs.Fields.{Fields}
 use Rattle.golden.specs.Finding.{NameFields}
@@ -68,15 +71,14 @@ unfolding any_below
 below_same p q zero h = refl
 below_same p q (suc n) h = rw (h n (omega arith), below_same p q n (λ i l. h i (omega arith)))
 
--- ---- as a loop meets it
-
-pub below_start : (p : ℕ → Bool) → any_below p 0 ≡ false
-unfolding any_below
-below_start p = refl
-
-pub below_on : (p : ℕ → Bool) (n : ℕ) → any_below p n ≡ false → p n ≡ false → any_below p (n + 1) ≡ false
-unfolding any_below
-below_on p n e h = rw (add-one, h) e
-
-pub below_end : (p : ℕ → Bool) (n end : ℕ) → any_below p n ≡ false → n ≤ end → end ≤ n → false ≡ any_below p end
-below_end p n end e a b = let q : end ≡ n = omega arith in rw q (sym e)
+-- one of the numbers from 0 up to n, as an iterator tries them
+pub any_of_range : (p : ℕ → Bool) (n : ℕ) → list_any p (range_with_len 0 n) ≡ any_below p n
+any_of_range p n =
+    sym
+    (or_is (list_any p) p refl (λ x xs. refl) (range_with_len 0 n) 0 (any_below p n)
+    (λ e.
+    let b = any_below_lem p n e in
+    (b.number, rw (length-range_with_len 0 n) b.within, rw (get_or-range_with_len 0 n b.number 0 b.within) (rw (zero-add b.number) b.passes)))
+    (λ e i l.
+    let k : i < n = rw (length-range_with_len 0 n) at l in
+    rw (get_or-range_with_len 0 n i 0 k) (rw (zero-add i) (none_below p n e i k))))

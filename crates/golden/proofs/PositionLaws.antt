@@ -52,11 +52,6 @@ pub record Going (p : ℕ → Bool) (n : ℕ) (l₀ l : List ℕ) (t k : ℕ) : 
   pub total : t + length (select p k (n - k)) ≡ length (select p 0 n)
   pub left : put_all l t (select p k (n - k)) ≡ put_all l₀ 0 (select p 0 n)
 
-pub going_start : (p : ℕ → Bool) (n : ℕ) (l : List ℕ) → Going p n l l 0 0
-going_start p n l =
-    let e : n - 0 ≡ n = omega arith in
-    record { within = omega arith; few = omega arith; same = refl; total = rw e (omega arith); left = rw e }
-
 pub going_on : (p : ℕ → Bool) (n : ℕ) (l₀ l : List ℕ) (t k : ℕ) (l' : List ℕ) (t' : ℕ) → Going p n l₀ l t k → k < n
     → t' ≡ cond (p k) (t + 1) t → l' ≡ cond (p k) (set l t k) l → length l' ≡ length l → Going p n l₀ l' t' (k + 1)
 going_on p n l₀ l t k l' t' g h e q s =

@@ -4,12 +4,11 @@ use mathlib.Core.Bool.{Bool, true, false, not}
 use mathlib.Core.List.{List, [], ◌∷◌}
 use mathlib.Core.Path.{◌≡◌, refl, ap, sym, ◌∙◌}
 use Prim.Native.Nat.{ℕ, zero, suc, ◌+◌, ◌-◌, ◌*◌, ◌≤◌, ◌<◌}
-use native.Mathlib.Numerals.{add-one}
 use native.Mathlib.Omega.{arith}
-use borrow.Author.Tests.{eq-eqb, eqb-true, ne_eqb, le-ltb, ltb-false, not-false}
+use borrow.Author.Tests.{eq-eqb, eqb-true, le-ltb, ltb-false, not-false}
 use lib.Dec.{eqb, ltb}
-use lib.ListN.{length, take, drop, get_or, drop_of_length-le, length-drop}
-use lib.Seq.{drop-cons, get_or-drop, take_all, length-take-le}
+use lib.ListN.{length, take, drop, get_or, length-drop}
+use lib.Seq.{get_or-drop, take_all, length-take-le}
 use Rattle.envelope.proofs.BoolLaws.{both, neither, past}
 use Rattle.envelope.specs.Fields.{Fields, Answer, accepted, refused}
 use Rattle.envelope.specs.Layout.{least_size}
@@ -17,20 +16,6 @@ use Rattle.envelope.specs.Reading.{reading}
 use Rattle.envelope.specs.Refusals.{Refused}
 use Rattle.golden.specs.File.{count_of, record_at}
 use Rattle.golden.specs.Record.{record_size, head_size, message_room, is_retired, stored_length, message_of, all_zero, bad_length, not_clear, good, bad, by_reading, judging}
-
--- ---- a scan for zeros, one byte on
-
-pub zeros_stop : (s : List ℕ) (i : ℕ) → i < length s → (get_or s i 0 ≡ 0 → ⊥) → all_zero (drop i s) ≡ false
-unfolding all_zero
-zeros_stop s i h n = rw (drop-cons s i 0) (simp (ne_eqb _ _ n))
-
-pub zeros_more : (s : List ℕ) (i : ℕ) → i < length s → get_or s i 0 ≡ 0 → all_zero (drop i s) ≡ all_zero (drop (i + 1) s)
-unfolding all_zero
-zeros_more s i h e = rw (add-one, drop-cons s i 0) (simp (eq-eqb _ _ e))
-
-pub zeros_end : (s : List ℕ) (i : ℕ) → length s ≤ i → all_zero (drop i s) ≡ true
-unfolding all_zero
-zeros_end s i h = rw (drop_of_length-le s h)
 
 -- where all are zero, each is; and back
 zeros_each : (s : List ℕ) (i : ℕ) → all_zero s ≡ true → get_or s i 0 ≡ 0

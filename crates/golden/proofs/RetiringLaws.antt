@@ -13,7 +13,7 @@ use Rattle.envelope.specs.Numbers.{byte_at}
 use Rattle.envelope.specs.Refusals.{Refused, plainly}
 use Rattle.golden.specs.File.{bad_file, count_of, not_there, judged_at}
 use Rattle.golden.specs.Record.{record_size, Judged, good, bad}
-use Rattle.golden.specs.Retiring.{top_bit, marked, RetireAnswer, done, refused, retiring_judged, retiring, after_retiring}
+use Rattle.golden.specs.Retiring.{top_bit, marked, RetireAnswer, done, refused, retiring_judged, retiring}
 use Rattle.golden.specs.Stepping.{end, step_of, step_at}
 use Rattle.golden.specs.Stepping as step
 
@@ -101,9 +101,3 @@ pub copied_marked : (f : List ℕ) (n : ℕ) (x : List ℕ) → x ≡ f
     → set x (n * record_size) (top_bit + byte_at f (n * record_size)) ≡ marked f n
 unfolding marked
 copied_marked f n x whole = ap (λ (y : List ℕ). set y (n * record_size) (top_bit + byte_at f (n * record_size))) whole
-
-pub no_retiring : (f : List ℕ) (n : ℕ) (entry : List ℕ) (a : RetireAnswer) (r : Refused) → refused r ≡ a → (refused r ≡ a) × (entry ≡ after_retiring a f n entry)
-no_retiring f n entry a r e = (e, rw (← e))
-
-pub retired_so : (f : List ℕ) (n : ℕ) (entry exit : List ℕ) (a : RetireAnswer) → done ≡ a → exit ≡ marked f n → (done ≡ a) × (exit ≡ after_retiring a f n entry)
-retired_so f n entry exit a e q = (e, rw (← e) q)

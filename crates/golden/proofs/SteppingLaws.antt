@@ -1,22 +1,26 @@
 -- A record that is there: what a step, an entry and a comparison make of its judgement, and where its message is stored.
 -- And that the message of a good record lies inside the file, as the part that a step hands out.
-use mathlib.Core.Bool.{Bool, true, false, cond}
+use mathlib.Core.Bool.{Bool, true, false, cond, not, ◌&&◌}
 use mathlib.Core.List.{List}
 use mathlib.Core.Path.{◌≡◌, refl, ap, sym, ◌∙◌}
-use Prim.Native.Nat.{ℕ, ◌+◌, ◌-◌, ◌*◌, ◌≤◌, ◌<◌}
-use native.Mathlib.Nat.{add-sub_cancel_left}
+use Prim.Native.Nat.{ℕ, ◌+◌, ◌*◌, ◌≤◌, ◌<◌}
 use native.Mathlib.Omega.{arith}
-use borrow.Author.Tests.{lt-leb}
+use borrow.Author.Tests.{lt-leb, leb-false, not-true}
 use lib.ListN.{take, drop}
 use lib.Seq.{drop-drop}
+use Rattle.std.specs.Prelude.{Option, Some, None, Result, Ok, Err, ok_or}
+use Rattle.envelope.proofs.BoolLaws.{both, true_is_not_false}
 use Rattle.envelope.proofs.RebuiltLaws.{part_of_front}
 use Rattle.envelope.specs.Fields.{Fields, part_of}
 use Rattle.envelope.specs.Refusals.{plainly}
+use Rattle.envelope.specs.Told.{told_part}
 use Rattle.golden.specs.File.{bad_file, count_of, not_there, record_at, judged_at}
 use Rattle.golden.specs.Listing.{entry_of, entry_at}
 use Rattle.golden.specs.Record.{record_size, head_size, message_room, stored_length, message_of, Judged, good, bad}
-use Rattle.golden.specs.Stepping.{StepAnswer, message, refused, end, message_part, step_of, step_at, nowhere, stored_message}
+use Rattle.golden.specs.Stepping.{StepAnswer, message, refused, end, message_part, step_of, step_at, next_after, told_reached, nowhere, stored_message}
 use Rattle.golden.specs.Theorems.{StepReachesTheStored}
+use Rattle.golden.specs.declared.refusal.Refusal.{Refusal}
+use Rattle.golden.specs.declared.stepper.Stored.{Stored}
 use Rattle.golden.proofs.FileLaws.{good_at}
 
 module _ (f : List ℕ) (n count : ℕ) (e : count ≡ count_of f) (h : bad_file f ≡ false) (l : n < count) (j : Judged) (q : judged_at f n ≡ j) where
@@ -28,14 +32,45 @@ module _ (f : List ℕ) (n count : ℕ) (e : count ≡ count_of f) (h : bad_file
   unfolding entry_at
   there_entered = rw (h, ← e, lt-leb _ _ l, q)
 
--- where its message lies: the part of 512 bytes that is lent is the record
-pub there_stored : (f : List ℕ) (n count : ℕ) → count ≡ count_of f → bad_file f ≡ false → n < count → (l : ℕ)
-    → l ≡ stored_length (take ((n * record_size + record_size) - n * record_size) (drop (n * record_size) f))
+-- whether the file has the record, and what follows
+pub record There (f : List ℕ) (n : ℕ) : Type 0 where
+  pub whole : bad_file f ≡ false
+  pub within : n < count_of f
+
+pub there : (f : List ℕ) (n : ℕ) → (not (bad_file f) && not (not_there f n)) ≡ true → There f n
+there f n e =
+    let p = both (not (bad_file f)) (not (not_there f n)) e in
+    record { whole = not-true (bad_file f) p.0; within = leb-false (count_of f) n (not-true (not_there f n) p.1) }
+
+pub next_on_lem : (f : List ℕ) (n : ℕ) → (not (bad_file f) && not (not_there f n)) ≡ true → n + 1 ≡ next_after f n
+unfolding next_after
+next_on_lem f n e = let t = there f n e in rw (t.whole, lt-leb _ _ t.within)
+
+pub next_stays_lem : (f : List ℕ) (n : ℕ) → (not (bad_file f) && not (not_there f n)) ≡ false → n ≡ next_after f n
+unfolding next_after
+next_stays_lem f n e = by (bad_file f) (not_there f n) e
+  where
+    by : (a b : Bool) → (not a && not b) ≡ false → n ≡ cond a n (cond b n (n + 1))
+    by true b e = refl
+    by false true e = refl
+    by false false e = absurd (true_is_not_false refl e)
+
+pub stored_nowhere : (f : List ℕ) (n : ℕ) → (not (bad_file f) && not (not_there f n)) ≡ false → nowhere ≡ stored_message f n
+unfolding stored_message
+stored_nowhere f n e = by (bad_file f) (not_there f n) e
+  where
+    by : (a b : Bool) → (not a && not b) ≡ false → nowhere ≡ cond a nowhere (cond b nowhere (message_part f n))
+    by true b e = refl
+    by false true e = refl
+    by false false e = absurd (true_is_not_false refl e)
+
+-- where its message lies
+pub stored_there : (f : List ℕ) (n : ℕ) → (not (bad_file f) && not (not_there f n)) ≡ true → (l : ℕ) → l ≡ stored_length (record_at f n)
     → record { place = n * record_size + head_size; size = l } ≡ stored_message f n
 unfolding stored_message
-there_stored f n count e h t l q =
-    let stored : l ≡ stored_length (record_at f n) = q ∙ ap (λ (k : ℕ). stored_length (take k (drop (n * record_size) f))) (add-sub_cancel_left (n * record_size) record_size) in
-    rw (h, ← e, lt-leb _ _ t) (λ i. record { place = n * record_size + head_size; size = stored i })
+stored_there f n e l q =
+    let t = there f n e in
+    rw (t.whole, lt-leb _ _ t.within) (λ i. record { place = n * record_size + head_size; size = q i })
 
 -- ---- back from the answer of a step
 
@@ -64,6 +99,16 @@ step_reaches_the_stored f n retired p e = go (bad_file f) (not_there f n) (judge
     go false true j e = absurd (let z : ◌≡◌ {A = ℕ} 0 1 = cc in omega arith)
     go false false (bad r) e = absurd (let z : ◌≡◌ {A = ℕ} 0 1 = cc in omega arith)
     go false false (good mark x) e = cc
+
+-- a step's answer, taken as the message of a record that has to be there
+module _ (x : StepAnswer) (r : Result Stored Refusal) (missing : Refusal) where
+  pub stored_so : (o : Option Stored) → r ≡ ok_or o missing → told_reached (Ok o) ≡ x → (s : Stored) → r ≡ Ok s → message s.retired (told_part s.part) ≡ x
+  stored_so None q e s h = cc
+  stored_so (Some y) q e s h = let same : y ≡ s = cc in ap (λ (z : Stored). message z.retired (told_part z.part)) (sym same) ∙ e
+
+  pub missing_so : (o : Option Stored) → r ≡ ok_or o missing → told_reached (Ok o) ≡ x → (d : Refusal) → r ≡ Err d → (d ≡ missing) × (end ≡ x)
+  missing_so None q e d h = (cc, e)
+  missing_so (Some y) q e d h = (cc, cc)
 
 -- ---- the message of a good record
 

@@ -1,90 +1,61 @@
--- A turn of find by halving, as its loop meets it: what it leads to, and that it leaves a smaller range.
-use mathlib.Core.Bool.{Bool, true, false, cond}
+-- Find by halving, as its loop meets it: how the search begins, and which half a name leaves.
+use mathlib.Core.Bool.{true, false, ◌&&◌, ◌||◌}
 use mathlib.Core.List.{List}
-use mathlib.Core.Path.{◌≡◌, refl, ap, sym, ◌∙◌}
-use Prim.Native.Nat.{ℕ, ◌+◌, ◌-◌, ◌≤◌, ◌<◌}
+use mathlib.Core.Path.{◌≡◌, ap, ◌∙◌, subst}
+use Prim.Native.Nat.{ℕ, ◌-◌}
 use native.Mathlib.Omega.{arith}
-use Rattle.envelope.specs.Refusals.{plainly}
-use Rattle.golden.specs.File.{bad_file, count_of, record_at, judged_at}
-use Rattle.golden.specs.Finding.{NameFields, has_name, name_of, FindAnswer, found, refused}
-use Rattle.golden.specs.Halving.{precedes, half, decides_half, halving_from, halving}
-use Rattle.golden.specs.Helpers.{Opened, holding, bad, opened_as, opening, Turned, ends, on, turn_by_name, turn_of}
-use Rattle.golden.specs.Record.{stored_length, Judged, good, bad, judging}
-use Rattle.golden.proofs.HalvingLaws.{halving_on}
-
--- ---- a turn
+use lib.Dec.{eqb, ltb}
+use Rattle.std.proofs.lemmas.Bool.Decides.{nat_tests}
+use Rattle.std.specs.Ordering.{nat_cmp, ordering_then}
+use Rattle.std.specs.declared.cmp.Ordering.{Ordering}
+use Rattle.std.specs.declared.cmp.Ordering.TheVariants.{Less, Equal, Greater}
+use Rattle.envelope.specs.Fields.{Fields}
+use Rattle.envelope.specs.Refusals.{Refused}
+use Rattle.golden.specs.Finding.{NameFields, has_name, name_of, refused, told_name}
+use Rattle.golden.specs.Halving.{precedes, halving_from, halving}
+use Rattle.golden.specs.Listing.{counting}
+use Rattle.golden.specs.Listing as list
+use Rattle.golden.specs.declared.finder.Name.{Name}
+use Rattle.golden.proofs.FileLaws.{counted_so, uncounted_so}
+use Rattle.golden.proofs.HalvingLaws.{halving_21}
 
 module _ (f : List ℕ) (name : NameFields) where
-  -- what a turn leads to
-  abbrev pub leads : ℕ → Turned → FindAnswer
-  leads opened (ends a) = a
-  leads opened (on first end) = halving_from f name (end - first) first end opened
+  pub halving_uncounted : (r : Refused) → list.refused r ≡ counting f → refused r 0 ≡ halving f name
+  halving_uncounted r e = let u = uncounted_so f r e in ap (λ (x : Refused). refused x 0) u.1 ∙ halving_21 f name u.0
 
-  by_name : (first end opened : ℕ) (retired same before : Bool)
-      → cond same (cond retired (refused (plainly 27) opened) (found (half first end) opened))
-      (cond before (halving_from f name (end - (half first end + 1)) (half first end + 1) end opened) (halving_from f name (half first end - first) first (half first end) opened))
-      ≡ leads opened
-      (cond same (ends (cond retired (refused (plainly 27) opened) (found (half first end) opened)))
-      (cond before (on (half first end + 1) end) (on first (half first end))))
-  by_name first end opened retired true before = refl
-  by_name first end opened retired false true = refl
-  by_name first end opened retired false false = refl
-
-  by_judged : (first end opened size : ℕ) (j : Judged)
-      → decides_half name (half first end) opened j
-      (halving_from f name (end - (half first end + 1)) (half first end + 1) end opened)
-      (halving_from f name (half first end - first) first (half first end) opened)
-      ≡ leads opened (turn_of name first (half first end) end opened (opened_as size j))
-  by_judged first end opened size (bad r) = refl
-  by_judged first end opened size (good retired fields) = by_name first end opened retired (has_name name fields) (precedes (name_of fields) name)
-
-  pub halving_turn : (first end opened : ℕ) → first < end → (o : Opened) → o ≡ opening (record_at f (half first end))
-      → (t : Turned) → t ≡ turn_of name first (half first end) end (opened + 1) o
-      → halving_from f name (end - first) first end opened ≡ leads (opened + 1) t
-  unfolding opening judged_at
-  halving_turn first end opened l o e t q =
-      halving_on f name first end opened l (judging (record_at f (half first end))) refl
-      ∙ by_judged first end (opened + 1) (stored_length (record_at f (half first end))) (judging (record_at f (half first end)))
-      ∙ ap (leads (opened + 1)) (sym (q ∙ ap (turn_of name first (half first end) end (opened + 1)) e))
-
-  pub halving_all : bad_file f ≡ false → (n : ℕ) → n ≡ count_of f → (a : FindAnswer) → a ≡ halving_from f name n 0 n 0 → a ≡ halving f name
+  pub halving_begin : (n : ℕ) → list.counted n ≡ counting f → halving f name ≡ halving_from f name (n - 0) 0 n 0
   unfolding halving
-  halving_all h n c a e = rw h (e ∙ ap (λ (k : ℕ). halving_from f name k 0 k 0) c)
+  halving_begin n e =
+      let k = counted_so f n e in
+      let z : n - 0 ≡ n = omega arith in
+      rw (k.0, ← k.1, z)
 
-  pub halving_begin : (n : ℕ) → halving_from f name n 0 n 0 ≡ halving_from f name (n - 0) 0 n 0
-  halving_begin n = ap (λ (k : ℕ). halving_from f name k 0 n 0) (omega arith)
+-- ---- the order of names, by which a record ends the search or leaves a half
 
--- a record's own name, as it was read off
-pub turn_by_own : (retired : Bool) (own other name : NameFields) (first n end opened : ℕ) (t : Turned) → own ≡ other
-    → t ≡ turn_by_name retired own name first n end opened → t ≡ turn_by_name retired other name first n end opened
-turn_by_own retired own other name first n end opened t e q = q ∙ ap (λ (x : NameFields). turn_by_name retired x name first n end opened) e
+by_less : (a b c d : ℕ) → ordering_then (nat_cmp a b) (nat_cmp c d) ≡ Less → ((eqb a b && eqb c d) ≡ false) × ((ltb a b || (eqb a b && ltb c d)) ≡ true)
+by_less a b c d e = (grind (arith, nat_tests), grind (arith, nat_tests))
 
--- ---- the range that is left
+by_equal : (a b c d : ℕ) → ordering_then (nat_cmp a b) (nat_cmp c d) ≡ Equal → (eqb a b && eqb c d) ≡ true
+by_equal a b c d e = grind (arith, nat_tests)
 
-pub record Narrower (first end next last : ℕ) : Type 0 where
-  pub ordered : next ≤ last
-  pub within : last ≤ end
-  pub fewer : last - next < end - first
+by_greater : (a b c d : ℕ) → ordering_then (nat_cmp a b) (nat_cmp c d) ≡ Greater → ((eqb a b && eqb c d) ≡ false) × ((ltb a b || (eqb a b && ltb c d)) ≡ false)
+by_greater a b c d e = (grind (arith, nat_tests), grind (arith, nat_tests))
 
-on_first : (a b c d : ℕ) → on a b ≡ on c d → (a ≡ c) × (b ≡ d)
-on_first a b c d e = (cc, cc)
+module _ (own name : Name) (fields : Fields) (e : told_name own ≡ name_of fields) (o : Ordering)
+    (h : o ≡ ordering_then (nat_cmp own.message_type name.message_type) (nat_cmp own.number name.number)) where
+  pub goes_after : o ≡ Less → (has_name (told_name name) fields ≡ false) × (precedes (name_of fields) (told_name name) ≡ true)
+  unfolding precedes
+  goes_after q =
+      subst (λ (x : NameFields). ((eqb x.message_type name.message_type && eqb x.number name.number) ≡ false) × ((ltb x.message_type name.message_type || (eqb x.message_type name.message_type && ltb x.number name.number)) ≡ true)) e
+      (by_less own.message_type name.message_type own.number name.number (rw h at q))
 
-narrower_by : (first end next last : ℕ) (same before : Bool) (x : FindAnswer) → first < end
-    → on next last ≡ cond same (ends x) (cond before (on (half first end + 1) end) (on first (half first end))) → Narrower first end next last
-narrower_by first end next last true before x l e = absurd (let z : ◌≡◌ {A = ℕ} 0 1 = cc in omega arith)
-narrower_by first end next last false true x l e =
-    let q = on_first next last (half first end + 1) end e in
-    let a = q.0 in
-    let b = q.1 in
-    record { ordered = omega (arith, a, b); within = omega (arith, b); fewer = omega (arith, a, b) }
-narrower_by first end next last false false x l e =
-    let q = on_first next last first (half first end) e in
-    let a = q.0 in
-    let b = q.1 in
-    record { ordered = omega (arith, a, b); within = omega (arith, b); fewer = omega (arith, a, b) }
+  pub is_named_so : o ≡ Equal → has_name (told_name name) fields ≡ true
+  is_named_so q =
+      subst (λ (x : NameFields). (eqb x.message_type name.message_type && eqb x.number name.number) ≡ true) e
+      (by_equal own.message_type name.message_type own.number name.number (rw h at q))
 
-pub narrower : (name : NameFields) (first end opened next last : ℕ) → first < end → (o : Opened) → on next last ≡ turn_of name first (half first end) end opened o
-    → Narrower first end next last
-narrower name first end opened next last l (bad r) e = absurd (let z : ◌≡◌ {A = ℕ} 0 1 = cc in omega arith)
-narrower name first end opened next last l (holding size retired fields) e =
-    narrower_by first end next last (has_name name fields) (precedes (name_of fields) name) _ l e
+  pub goes_before : o ≡ Greater → (has_name (told_name name) fields ≡ false) × (precedes (name_of fields) (told_name name) ≡ false)
+  unfolding precedes
+  goes_before q =
+      subst (λ (x : NameFields). ((eqb x.message_type name.message_type && eqb x.number name.number) ≡ false) × ((ltb x.message_type name.message_type || (eqb x.message_type name.message_type && ltb x.number name.number)) ≡ false)) e
+      (by_greater own.message_type name.message_type own.number name.number (rw h at q))

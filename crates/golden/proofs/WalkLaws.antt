@@ -10,11 +10,13 @@ use native.Mathlib.Decide.{dec_le}
 use native.Mathlib.Numerals.{add-one}
 use native.Mathlib.Omega.{arith}
 use borrow.Author.Tests.{le-leb, lt-leb}
+use Rattle.std.specs.Prelude.{Option, Result}
 use Rattle.envelope.specs.Refusals.{plainly}
 use Rattle.golden.specs.File.{bad_file, count_of, judged_at}
 use Rattle.golden.specs.Stepping.{refused, end, step_of, step_at, next_after, told_reached}
 use Rattle.golden.specs.Theorems.{WalkOver, FileWalksInOrder, OtherFileStays}
-use Rattle.golden.specs.declared.stepper.Reached.{Reached}
+use Rattle.golden.specs.declared.refusal.Refusal.{Refusal}
+use Rattle.golden.specs.declared.stepper.Stored.{Stored}
 use Rattle.golden.specs.declared.walker.Walk.{Walk}
 
 -- the number that so many steps of a fresh walk lead to
@@ -63,7 +65,7 @@ stays f h k = rw h
 
 -- ---- the walk itself: its file stays, and its number is that of so many steps
 
-module _ (file : Bor (List ℕ)) (walk : ℕ → Walk) (answer : ℕ → Reached) (w : WalkOver file walk answer) where
+module _ (file : Bor (List ℕ)) (walk : ℕ → Walk) (answer : ℕ → Result (Option Stored) Refusal) (w : WalkOver file walk answer) where
   same_file : (k : ℕ) → (walk k).file ≡ file
   same_file zero = w.fresh.0
   same_file (suc k) = (w.steps k).1.0 ∙ same_file k

@@ -1,6 +1,6 @@
 -- Why there is no refusal 32: of two accepted messages neither is a proper beginning of the other, since each states its length in its first 17 bytes. RULES 5.
 -- Compare with that refusal in it is kept here beside these statements, and is no part of any promise. Proved in proofs/BeginningLaws.
-use Rattle.std.specs.Prelude.{ℕ, Bool, true, false, cond, ◌&&◌, ◌||◌, List, [], ◌∷◌, ◌≡◌, eqb, ltb, length}
+use Rattle.std.specs.Prelude.{ℕ, Bool, true, false, cond, ◌&&◌, ◌||◌, List, [], ◌∷◌, ◌≡◌, eqb, ltb, length, Result}
 use Rattle.envelope.specs.Fields.{Fields, Answer, accepted}
 use Rattle.envelope.specs.Fields as read
 use Rattle.envelope.specs.Reading.{reading}
@@ -8,7 +8,7 @@ use Rattle.envelope.specs.Refusals.{plainly, passing_on}
 use Rattle.golden.specs.Comparing.{differing, CompareOutcome, positions, refused, comparing, told_comparison, Compares}
 use Rattle.golden.specs.File.{bad_file, not_there, record_at, judged_at}
 use Rattle.golden.specs.Record.{message_of, Judged, good, bad}
-use Rattle.golden.specs.declared.comparer.Comparison.{Comparison}
+use Rattle.golden.specs.declared.refusal.Refusal.{Refusal}
 
 unfoldable pub is_beginning : List ℕ → List ℕ → Bool
 is_beginning [] t = true
@@ -53,5 +53,5 @@ CompareIsUnchanged = (f : List ℕ) (n : ℕ) (radio : List ℕ) → comparing f
 -- so no answer that keeps the promise of `compare` is 32
 abbrev pub CompareNeverGives32 : Type 0
 CompareNeverGives32 =
-    (f : List ℕ) (n : ℕ) (radio entry exit : List ℕ) (a : Comparison) → Compares f n radio entry a exit
+    (f : List ℕ) (n : ℕ) (radio entry exit : List ℕ) (a : Result ℕ Refusal) → Compares f n radio entry a exit
     → told_comparison a ≡ refused (plainly 32) → ⊥

@@ -1,6 +1,6 @@
 -- Compare one record with a radio's message: same, or different with the total of differing positions. RULES 5.
 -- A position below only one of the two lengths differs. A retired record is refused as 38 (K7). No refusal writes to the list.
-use Rattle.std.specs.Prelude.{ℕ, Bool, cond, not, ◌||◌, List, ◌≡◌, eqb, leb, ltb, length, get_or}
+use Rattle.std.specs.Prelude.{ℕ, Bool, cond, not, ◌||◌, List, ◌≡◌, eqb, leb, ltb, length, get_or, Result, Ok, Err}
 use Rattle.envelope.specs.Fields.{Answer, accepted}
 use Rattle.envelope.specs.Fields as read
 use Rattle.envelope.specs.Reading.{reading}
@@ -9,8 +9,7 @@ use Rattle.golden.specs.File.{bad_file, not_there, record_at, judged_at}
 use Rattle.golden.specs.Positions.{noted, select}
 use Rattle.golden.specs.Record.{message_of, Judged, good, bad}
 use Rattle.golden.specs.Refusal.{told_golden_refusal}
-use Rattle.golden.specs.declared.comparer.Comparison.{Comparison}
-use Rattle.golden.specs.declared.comparer.Comparison.TheVariants.{Same, Different, Refused as CompareRefused}
+use Rattle.golden.specs.declared.refusal.Refusal.{Refusal}
 
 -- a position, below one of the lengths, at which two messages differ
 unfoldable pub differs_at : List ℕ → List ℕ → ℕ → Bool
@@ -57,12 +56,12 @@ unfoldable pub answer_to_comparing : CompareOutcome → CompareAnswer
 answer_to_comparing (positions ks) = cond (eqb (length ks) 0) same (different (length ks))
 answer_to_comparing (refused x) = refused x
 
-abbrev pub told_comparison : Comparison → CompareAnswer
-told_comparison Same = same
-told_comparison (Different n) = different n
-told_comparison (CompareRefused r) = refused (told_golden_refusal r)
+-- in how many places the two differ
+abbrev pub told_comparison : Result ℕ Refusal → CompareAnswer
+told_comparison (Ok n) = cond (eqb n 0) same (different n)
+told_comparison (Err r) = refused (told_golden_refusal r)
 
 -- what `compare` promises, of its answer and of the whole list afterwards
-abbrev pub Compares : List ℕ → ℕ → List ℕ → List ℕ → Comparison → List ℕ → Type 0
+abbrev pub Compares : List ℕ → ℕ → List ℕ → List ℕ → Result ℕ Refusal → List ℕ → Type 0
 Compares f n radio entry r exit =
     (told_comparison r ≡ answer_to_comparing (comparing f n radio)) × (exit ≡ after_comparing (comparing f n radio) entry)

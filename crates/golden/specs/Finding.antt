@@ -1,15 +1,15 @@
 -- Find: records are opened from the first until one is bad, or is live and has the type and number sought. RULES 5.
 -- Retired records that are good are passed over, and count as opened (K7).
 -- With each answer goes the number of records opened: the place of the deciding record plus one, all for 27, none for 21.
-use Rattle.std.specs.Prelude.{ℕ, zero, suc, ◌+◌, Bool, cond, not, ◌&&◌, List, ◌≡◌, eqb}
+use Rattle.std.specs.Prelude.{ℕ, zero, suc, ◌+◌, Bool, cond, not, ◌&&◌, List, ◌≡◌, eqb, Result, Ok, Err}
 use Rattle.envelope.specs.Fields.{Fields}
 use Rattle.envelope.specs.Refusals.{Refused, plainly}
 use Rattle.golden.specs.File.{bad_file, count_of, judged_at}
 use Rattle.golden.specs.Record.{Judged, good, bad}
 use Rattle.golden.specs.Refusal.{told_golden_refusal}
-use Rattle.golden.specs.declared.finder.Finding.{Finding}
-use Rattle.golden.specs.declared.finder.Finding.TheVariants.{Found, Refused as FindRefused}
+use Rattle.golden.specs.declared.finder.Found.{Found}
 use Rattle.golden.specs.declared.finder.Name.{Name}
+use Rattle.golden.specs.declared.finder.RefusedAfter.{RefusedAfter}
 
 -- what is sought
 pub record NameFields : Type 0 where
@@ -43,10 +43,10 @@ finding f name = cond (bad_file f) (refused (plainly 21) 0) (find_from f name 0 
 abbrev pub told_name : Name → NameFields
 told_name name = record { message_type = name.message_type; number = name.number }
 
-abbrev pub told_finding : Finding → FindAnswer
-told_finding (Found n opened) = found n opened
-told_finding (FindRefused r opened) = refused (told_golden_refusal r) opened
+abbrev pub told_finding : Result Found RefusedAfter → FindAnswer
+told_finding (Ok f) = found f.record f.opened
+told_finding (Err after) = refused (told_golden_refusal after.refusal) after.opened
 
 -- what `find` promises
-abbrev pub Finds : List ℕ → Name → Finding → Type 0
+abbrev pub Finds : List ℕ → Name → Result Found RefusedAfter → Type 0
 Finds f name r = told_finding r ≡ finding f (told_name name)

@@ -1,6 +1,6 @@
 -- What find by halving and the order are good for (K9), as types; the proofs stand in proofs/HalvingLaws, HalvedLaws and OrderingLaws.
 -- `f` is a file, `i` and `k` number records, and `a` is an answer that keeps its promise.
-use Rattle.std.specs.Prelude.{ℕ, suc, ◌≤◌, ◌<◌, Bool, true, false, List, [], ◌⊎◌, ◌≡◌}
+use Rattle.std.specs.Prelude.{ℕ, suc, ◌≤◌, ◌<◌, Bool, true, false, List, [], ◌⊎◌, ◌≡◌, Result}
 use Rattle.envelope.specs.Fields.{Fields, Refusal}
 use Rattle.envelope.specs.Fields as envelope
 use Rattle.envelope.specs.Reading.{reading}
@@ -14,8 +14,9 @@ use Rattle.golden.specs.Ordering as order
 use Rattle.golden.specs.Pairing.{is_named}
 use Rattle.golden.specs.Record.{message_room, message_of, good, bad}
 use Rattle.golden.specs.Theorems.{GoodAt, opened_number, found_number, find_place}
-use Rattle.golden.specs.declared.finder.Finding.{Finding}
+use Rattle.golden.specs.declared.finder.Found.{Found}
 use Rattle.golden.specs.declared.finder.Name.{Name}
+use Rattle.golden.specs.declared.finder.RefusedAfter.{RefusedAfter}
 
 -- a name before another: by type, then by number
 abbrev pub Earlier : NameFields → NameFields → Type 0
@@ -90,14 +91,14 @@ EightOpenings = (f : List ℕ) (name : NameFields) → opened_number (halving f 
 
 abbrev pub HalvedFindsTheSame : Type 0
 HalvedFindsTheSame =
-    (f : List ℕ) (name : Name) (a : Finding) (n : ℕ) → Halves f name a → checking f ≡ counted n → Ascending f
+    (f : List ℕ) (name : Name) (a : Result Found RefusedAfter) (n : ℕ) → Halves f name a → checking f ≡ counted n → Ascending f
     → SameRecord (told_finding a) (finding f (told_name name))
 
 abbrev pub HalvedIsTrue : Type 0
-HalvedIsTrue = (f : List ℕ) (name : Name) (a : Finding) → Halves f name a → TrueMatch f (told_name name) (told_finding a)
+HalvedIsTrue = (f : List ℕ) (name : Name) (a : Result Found RefusedAfter) → Halves f name a → TrueMatch f (told_name name) (told_finding a)
 
 abbrev pub HalvedOpensEight : Type 0
-HalvedOpensEight = (f : List ℕ) (name : Name) (a : Finding) → Halves f name a → opened_number (told_finding a) ≤ 8
+HalvedOpensEight = (f : List ℕ) (name : Name) (a : Result Found RefusedAfter) → Halves f name a → opened_number (told_finding a) ≤ 8
 
 -- ---- how large an answer can be, and what a refusal passes on
 

@@ -1,10 +1,11 @@
 -- Find by halving (K9), for files in strictly ascending order of type, then number: it opens the record at half of first plus end, rounded down, and halves the range.
 -- `end` is one past the range's last record. Refusals: 21, then those of each record opened; a good match that is retired ends the search with 27.
-use Rattle.std.specs.Prelude.{ℕ, zero, suc, ◌+◌, ◌/◌, Bool, cond, ◌&&◌, ◌||◌, List, ◌≡◌, eqb, leb, ltb}
+use Rattle.std.specs.Prelude.{ℕ, zero, suc, ◌+◌, ◌/◌, Bool, cond, ◌&&◌, ◌||◌, List, ◌≡◌, eqb, leb, ltb, Result}
 use Rattle.golden.specs.File.{bad_file, count_of, judged_at}
 use Rattle.golden.specs.Finding.{NameFields, has_name, FindAnswer, found, refused, name_of, told_name, told_finding}
-use Rattle.golden.specs.declared.finder.Finding.{Finding}
+use Rattle.golden.specs.declared.finder.Found.{Found}
 use Rattle.golden.specs.declared.finder.Name.{Name}
+use Rattle.golden.specs.declared.finder.RefusedAfter.{RefusedAfter}
 use Rattle.envelope.specs.Refusals.{plainly}
 use Rattle.golden.specs.Record.{Judged, good, bad}
 
@@ -35,5 +36,5 @@ unfoldable pub halving : List ℕ → NameFields → FindAnswer
 halving f name = cond (bad_file f) (refused (plainly 21) 0) (halving_from f name (count_of f) 0 (count_of f) 0)
 
 -- what `find_by_halving` promises
-abbrev pub Halves : List ℕ → Name → Finding → Type 0
+abbrev pub Halves : List ℕ → Name → Result Found RefusedAfter → Type 0
 Halves f name r = told_finding r ≡ halving f (told_name name)

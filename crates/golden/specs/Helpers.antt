@@ -1,24 +1,18 @@
 -- Meanings of the private helpers' answers. No promise to a user names them.
 -- Beside `Judged` of specs/Record an opened record has its stored length with its mark and fields.
-use Rattle.std.specs.Prelude.{ℕ, ◌+◌, ◌%◌, ◌<◌, Bool, true, false, cond, not, ◌&&◌, List, ◌≡◌, eqb, ltb, get_or}
+use Rattle.std.specs.Prelude.{ℕ, ◌+◌, ◌%◌, ◌<◌, Bool, true, false, cond, not, ◌&&◌, List, ◌≡◌, eqb, ltb, get_or, Result, Ok, Err}
 use Rattle.envelope.specs.Fields.{Fields}
 use Rattle.envelope.specs.Layout.{type_place, number_place}
 use Rattle.envelope.specs.Numbers.{two_at, four_at}
-use Rattle.envelope.specs.Refusals.{Refused, plainly}
+use Rattle.envelope.specs.Refusals.{Refused}
 use Rattle.envelope.specs.Told.{told_envelope}
 use Rattle.golden.specs.File.{record_at}
-use Rattle.golden.specs.Finding.{NameFields, has_name, name_of, FindAnswer, found, refused, told_finding}
-use Rattle.golden.specs.Halving.{precedes}
+use Rattle.golden.specs.Finding.{NameFields, name_of}
 use Rattle.golden.specs.Pairing.{any_below}
 use Rattle.golden.specs.Record.{head_size, is_retired, stored_length, Judged, judging}
 use Rattle.golden.specs.Record as judged
 use Rattle.golden.specs.Refusal.{told_golden_refusal}
-use Rattle.golden.specs.declared.finder.Seen.{Seen}
-use Rattle.golden.specs.declared.finder.Seen.TheVariants as seen
-use Rattle.golden.specs.declared.halver.Turn.{Turn}
-use Rattle.golden.specs.declared.halver.Turn.TheVariants.{Ends, On}
-use Rattle.golden.specs.declared.record.Opening.{Opening}
-use Rattle.golden.specs.declared.record.Opening.TheVariants.{Good, Bad}
+use Rattle.golden.specs.declared.record.GoodRecord.{GoodRecord}
 use Rattle.golden.specs.declared.refusal.Refusal.{Refusal}
 use Rattle.golden.specs.declared.refusal.Refusal.TheVariants.{NotAGoldenFile, NoRecord, BadLength, NotClear, RecordRefused, NameTaken, NotFound, RadioRefused, TooLong, MessageRefused, WrongBuffer, AlreadyRetired, WrongCopy, RecordRetired}
 
@@ -33,51 +27,9 @@ opened_as size (judged.bad r) = bad r
 unfoldable pub opening : List ℕ → Opened
 opening r = opened_as (stored_length r) (judging r)
 
-abbrev pub told_opening : Opening → Opened
-told_opening (Good g) = holding g.size g.retired (told_envelope g.envelope)
-told_opening (Bad r) = bad (told_golden_refusal r)
-
--- what an opened record adds to the count of the retired ones
-abbrev pub opened_retired : Opened → ℕ
-opened_retired (holding size retired f) = cond retired 1 0
-opened_retired (bad r) = 0
-
--- what an opened record is to find: bad, the one sought, or another
-pub data Sight : Type 0 where
-  bad : Refused → Sight
-  sought : Sight
-  other : Sight
-
-abbrev pub seen_as : NameFields → Opened → Sight
-seen_as name (bad r) = bad r
-seen_as name (holding size retired f) = cond (not retired && has_name name f) sought other
-
-abbrev pub told_seen : Seen → Sight
-told_seen (seen.Bad r) = bad (told_golden_refusal r)
-told_seen seen.Sought = sought
-told_seen seen.Other = other
-
--- ---- a turn of find by halving, which opened record n: it ends, or goes on from first up to end
-
-pub data Turned : Type 0 where
-  ends : FindAnswer → Turned
-  on : (first end : ℕ) → Turned
-
-abbrev pub same_name : NameFields → NameFields → Bool
-same_name own name = eqb own.message_type name.message_type && eqb own.number name.number
-
-abbrev pub turn_by_name : (retired : Bool) → NameFields → NameFields → (first n end opened : ℕ) → Turned
-turn_by_name retired own name first n end opened =
-    cond (same_name own name) (ends (cond retired (refused (plainly 27) opened) (found n opened)))
-    (cond (precedes own name) (on (n + 1) end) (on first n))
-
-abbrev pub turn_of : NameFields → (first n end opened : ℕ) → Opened → Turned
-turn_of name first n end opened (bad r) = ends (refused r opened)
-turn_of name first n end opened (holding size retired f) = turn_by_name retired (name_of f) name first n end opened
-
-abbrev pub told_turn : Turn → Turned
-told_turn (Ends finding) = ends (told_finding finding)
-told_turn (On first end) = on first end
+abbrev pub told_opening : Result GoodRecord Refusal → Opened
+told_opening (Ok g) = holding g.size g.retired (told_envelope g.envelope)
+told_opening (Err r) = bad (told_golden_refusal r)
 
 -- ---- the name and the mark of a good record as they stand in the record's bytes, by which check looks back
 

@@ -1,14 +1,13 @@
 -- Whether the records of a file, retired ones too, stand in strictly ascending order of type, then number (K9).
 -- Record by record: a bad one is refused; a good one must come after the one before it, or the order breaks there. `f` is the list of the file's bytes.
-use Rattle.std.specs.Prelude.{ℕ, zero, suc, ◌+◌, Bool, true, cond, List, ◌≡◌}
+use Rattle.std.specs.Prelude.{ℕ, zero, suc, ◌+◌, Bool, true, cond, List, ◌≡◌, Option, Some, None, Result, Ok, Err}
 use Rattle.envelope.specs.Refusals.{Refused, plainly}
 use Rattle.golden.specs.File.{bad_file, count_of, judged_at}
 use Rattle.golden.specs.Finding.{name_of}
 use Rattle.golden.specs.Halving.{precedes}
 use Rattle.golden.specs.Record.{Judged, good, bad}
 use Rattle.golden.specs.Refusal.{told_golden_refusal}
-use Rattle.golden.specs.declared.orderer.Ordering.{Ordering}
-use Rattle.golden.specs.declared.orderer.Ordering.TheVariants.{Ascends, Breaks, Refused as OrderRefused}
+use Rattle.golden.specs.declared.refusal.RefusedAt.{RefusedAt}
 
 -- in order; or the first record that does not come after the one before it; or the first bad one
 pub data OrderAnswer : Type 0 where
@@ -40,11 +39,11 @@ order_from f n (suc left) = unless_out n (in_place f n) (judged_at f n) (order_f
 unfoldable pub ordering : List ℕ → OrderAnswer
 ordering f = cond (bad_file f) (refused 0 (plainly 21)) (order_from f 0 (count_of f))
 
-abbrev pub told_ordering : Ordering → OrderAnswer
-told_ordering Ascends = ascends
-told_ordering (Breaks n) = breaks n
-told_ordering (OrderRefused n r) = refused n (told_golden_refusal r)
+abbrev pub told_ordering : Result (Option ℕ) RefusedAt → OrderAnswer
+told_ordering (Ok None) = ascends
+told_ordering (Ok (Some n)) = breaks n
+told_ordering (Err at) = refused at.record (told_golden_refusal at.refusal)
 
 -- what `ascending` promises
-abbrev pub Orders : List ℕ → Ordering → Type 0
+abbrev pub Orders : List ℕ → Result (Option ℕ) RefusedAt → Type 0
 Orders f r = told_ordering r ≡ ordering f

@@ -22,6 +22,6 @@ told_golden_refusal AlreadyRetired = plainly 36
 told_golden_refusal WrongCopy = plainly 37
 told_golden_refusal RecordRetired = plainly 38
 
--- what `Refusal::numbers` promises
+-- what `Numbers::from` promises of it
 abbrev pub NumbersGoldenRefusal : Refusal → Numbers → Type 0
 NumbersGoldenRefusal refusal r = TellsNumbers (told_golden_refusal refusal) r

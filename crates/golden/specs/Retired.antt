@@ -1,6 +1,6 @@
 -- What retiring a record does (K7), as types; the proofs stand in proofs/RetiredLaws, and what is said of the count in proofs/CountLaws.
 -- `f` is the file, and `marked f n` what stands in the second buffer afterwards.
-use Rattle.std.specs.Prelude.{ℕ, ◌+◌, ◌*◌, ◌≤◌, ◌<◌, true, false, List, ◌≡◌, length}
+use Rattle.std.specs.Prelude.{ℕ, ◌+◌, ◌*◌, ◌≤◌, ◌<◌, true, false, List, ◌≡◌, length, Result}
 use Rattle.envelope.specs.Fields.{Fields, Refusal}
 use Rattle.envelope.specs.Fields as envelope
 use Rattle.envelope.specs.Numbers.{byte_at}
@@ -15,7 +15,7 @@ use Rattle.golden.specs.Listing.{counting_retired}
 use Rattle.golden.specs.Listing as listing
 use Rattle.golden.specs.Record.{record_size, message_room, message_of, good}
 use Rattle.golden.specs.Retiring.{top_bit, marked, RetireAnswer, done, refused, retiring, told_retiring, Retires}
-use Rattle.golden.specs.declared.retirer.Retiring.{Retiring}
+use Rattle.golden.specs.declared.refusal.Refusal.{Refusal as GoldenRefusal}
 
 -- the record was live and is retired, with the same message; every other record is judged as it was
 -- one byte differs, by its top bit, which was not set
@@ -36,7 +36,7 @@ RetireMarksOne = (f : List ℕ) (n room : ℕ) → retiring f n room ≡ done �
 -- of the function's own answer: the buffer is that file
 abbrev pub RetiredIsWritten : Type 0
 RetiredIsWritten =
-    (f : List ℕ) (n : ℕ) (entry exit : List ℕ) (a : Retiring) → Retires f n entry a exit → told_retiring a ≡ done → RetiredOne f n exit
+    (f : List ℕ) (n : ℕ) (entry exit : List ℕ) (a : Result (Unit {0}) GoldenRefusal) → Retires f n entry a exit → told_retiring a ≡ done → RetiredOne f n exit
 
 -- a file that passed still passes, with the same count
 abbrev pub RetiredStillPasses : Type 0
@@ -75,7 +75,7 @@ RetiredAreBytes = (f : List ℕ) (n room : ℕ) → retiring f n room ≡ done �
 -- it leaves the buffer as it was
 abbrev pub RefusedRetiringKeepsBuffer : Type 0
 RefusedRetiringKeepsBuffer =
-    (f : List ℕ) (n : ℕ) (entry exit : List ℕ) (a : Retiring) (r : Refused) → Retires f n entry a exit → told_retiring a ≡ refused r → exit ≡ entry
+    (f : List ℕ) (n : ℕ) (entry exit : List ℕ) (a : Result (Unit {0}) GoldenRefusal) (r : Refused) → Retires f n entry a exit → told_retiring a ≡ refused r → exit ≡ entry
 
 -- its place is no larger than a record's message can be long, and it passes reading's refusal of that message on whole
 abbrev pub retire_place : RetireAnswer → ℕ

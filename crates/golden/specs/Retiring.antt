@@ -1,13 +1,12 @@
 -- Retire: the file is written to a second buffer with the top bit of one record's stored length set, and no other byte different. RULES 5 (K7).
 -- Refusals: 21, 22, 23 to 25 for that record, then 36 (already retired), 37 (the buffer's length is not the file's). `room` is the buffer's length. No refusal writes.
-use Rattle.std.specs.Prelude.{ℕ, ◌+◌, ◌*◌, cond, not, List, ◌≡◌, eqb, length, set}
+use Rattle.std.specs.Prelude.{ℕ, ◌+◌, ◌*◌, cond, not, List, ◌≡◌, eqb, length, set, Result, Ok, Err}
 use Rattle.envelope.specs.Numbers.{byte_at}
 use Rattle.envelope.specs.Refusals.{Refused, plainly}
 use Rattle.golden.specs.File.{bad_file, not_there, judged_at}
 use Rattle.golden.specs.Record.{record_size, Judged, good, bad}
 use Rattle.golden.specs.Refusal.{told_golden_refusal}
-use Rattle.golden.specs.declared.retirer.Retiring.{Retiring}
-use Rattle.golden.specs.declared.retirer.Retiring.TheVariants.{Done, Refused as RetireRefused}
+use Rattle.golden.specs.declared.refusal.Refusal.{Refusal}
 
 -- the top bit of a byte
 abbrev pub top_bit : ℕ
@@ -40,11 +39,11 @@ abbrev pub after_retiring : RetireAnswer → List ℕ → ℕ → List ℕ → L
 after_retiring done f n entry = marked f n
 after_retiring (refused r) f n entry = entry
 
-abbrev pub told_retiring : Retiring → RetireAnswer
-told_retiring Done = done
-told_retiring (RetireRefused r) = refused (told_golden_refusal r)
+abbrev pub told_retiring : Result (Unit {0}) Refusal → RetireAnswer
+told_retiring (Ok u) = done
+told_retiring (Err r) = refused (told_golden_refusal r)
 
 -- what `retire` promises, of its answer and of the whole buffer afterwards
-abbrev pub Retires : List ℕ → ℕ → List ℕ → Retiring → List ℕ → Type 0
+abbrev pub Retires : List ℕ → ℕ → List ℕ → Result (Unit {0}) Refusal → List ℕ → Type 0
 Retires f n entry r exit =
     (told_retiring r ≡ retiring f n (length entry)) × (exit ≡ after_retiring (retiring f n (length entry)) f n entry)

@@ -1,6 +1,6 @@
 -- Walk: a step answers the message of a record as a part of the file, its refusal, or the end, and the number of the next record. RULES 5.
 -- A retired record's message is answered too, and that it is retired (K7). The next is one on, except at the end and at 21, where the walk stays. A number at or past the count is the end.
-use Rattle.std.specs.Prelude.{ℕ, ◌+◌, ◌*◌, Bool, cond, List, ◌≡◌}
+use Rattle.std.specs.Prelude.{ℕ, ◌+◌, ◌*◌, Bool, cond, List, ◌≡◌, Option, Some, None, Result, Ok, Err}
 use Rattle.envelope.specs.Fields.{Span}
 use Rattle.envelope.specs.Refusals.{Refused, plainly}
 use Rattle.envelope.specs.Told.{told_part}
@@ -8,9 +8,9 @@ use Rattle.envelope.specs.declared.fields.Part.{Part}
 use Rattle.golden.specs.File.{bad_file, not_there, record_at, judged_at}
 use Rattle.golden.specs.Record.{record_size, head_size, stored_length, Judged, good, bad}
 use Rattle.golden.specs.Refusal.{told_golden_refusal}
-use Rattle.golden.specs.declared.stepper.Reached.{Reached}
-use Rattle.golden.specs.declared.stepper.Reached.TheVariants.{Message, Refused as StepRefused, End}
+use Rattle.golden.specs.declared.refusal.Refusal.{Refusal}
 use Rattle.golden.specs.declared.stepper.Stepping.{Stepping}
+use Rattle.golden.specs.declared.stepper.Stored.{Stored}
 
 pub data StepAnswer : Type 0 where
   message : (retired : Bool) → Span → StepAnswer
@@ -34,10 +34,10 @@ step_at f n =
 unfoldable pub next_after : List ℕ → ℕ → ℕ
 next_after f n = cond (bad_file f) n (cond (not_there f n) n (n + 1))
 
-abbrev pub told_reached : Reached → StepAnswer
-told_reached (Message part retired) = message retired (told_part part)
-told_reached (StepRefused r) = refused (told_golden_refusal r)
-told_reached End = end
+abbrev pub told_reached : Result (Option Stored) Refusal → StepAnswer
+told_reached (Ok (Some stored)) = message stored.retired (told_part stored.part)
+told_reached (Ok None) = end
+told_reached (Err r) = refused (told_golden_refusal r)
 
 -- what `step` promises
 abbrev pub Steps : List ℕ → ℕ → Stepping → Type 0

@@ -1,6 +1,6 @@
 -- What users of a golden file rely on. Each statement is a type here; the proofs stand in proofs/ (WalkLaws, SteppingLaws, CheckedLaws, FoundLaws, SameLaws, MadeLaws, FewLaws, CountLaws, PointLaws, PassLaws, KeptLaws, DemandLaws).
 -- `f` and `g` are files, `n` counts records.
-use Rattle.std.specs.Prelude.{ℕ, suc, ◌+◌, ◌*◌, ◌≤◌, ◌<◌, Bool, true, false, List, ◌⊎◌, ◌≡◌, length}
+use Rattle.std.specs.Prelude.{ℕ, suc, ◌+◌, ◌*◌, ◌≤◌, ◌<◌, Bool, true, false, List, ◌⊎◌, ◌≡◌, length, Option, Result}
 use Rattle.std.specs.Borrow.{Bor}
 use Rattle.envelope.specs.AnyWindow.{TwoAndTwoAt, OneDifference}
 use Rattle.envelope.specs.Demand3.{DeclaresCrc, Window, SameOutside}
@@ -27,32 +27,31 @@ use Rattle.golden.specs.Record.{record_size, head_size, message_room, message_of
 use Rattle.golden.specs.Stepping.{StepAnswer, message, end, step_of, step_at, next_after, told_reached, stored_message}
 use Rattle.golden.specs.Stepping as step
 use Rattle.golden.specs.Walking.{Begins, Walks}
-use Rattle.golden.specs.declared.comparer.Comparison.{Comparison}
-use Rattle.golden.specs.declared.maker.Making.{Making}
-use Rattle.golden.specs.declared.stepper.Reached.{Reached}
+use Rattle.golden.specs.declared.refusal.Refusal.{Refusal as GoldenRefusal}
+use Rattle.golden.specs.declared.stepper.Stored.{Stored}
 use Rattle.golden.specs.declared.walker.Walk.{Walk}
 
 -- ---- walk
 
 -- a fresh walk and its steps: `walk k` is the walk before step k, and `answer k` what that step answers
-pub record WalkOver (file : Bor (List ℕ)) (walk : ℕ → Walk) (answer : ℕ → Reached) : Type 0 where
+pub record WalkOver (file : Bor (List ℕ)) (walk : ℕ → Walk) (answer : ℕ → Result (Option Stored) GoldenRefusal) : Type 0 where
   pub fresh : Begins file (walk 0)
   pub steps : (k : ℕ) → Walks (walk k) (answer k) (walk (suc k))
 
 -- steps 0 to count - 1 answer records 0 to count - 1 in order, and every later one the end
-pub record InOrder (f : List ℕ) (answer : ℕ → Reached) : Type 0 where
+pub record InOrder (f : List ℕ) (answer : ℕ → Result (Option Stored) GoldenRefusal) : Type 0 where
   pub records : (k : ℕ) → k < count_of f → told_reached (answer k) ≡ step_of f k (judged_at f k)
   pub then_the_end : (k : ℕ) → count_of f ≤ k → told_reached (answer k) ≡ end
 
 abbrev pub FileWalksInOrder : Type 0
 FileWalksInOrder =
-    (file : Bor (List ℕ)) (walk : ℕ → Walk) (answer : ℕ → Reached) → WalkOver file walk answer
+    (file : Bor (List ℕ)) (walk : ℕ → Walk) (answer : ℕ → Result (Option Stored) GoldenRefusal) → WalkOver file walk answer
     → bad_file file.now ≡ false → InOrder file.now answer
 
 -- on any other file every step answers 21
 abbrev pub OtherFileStays : Type 0
 OtherFileStays =
-    (file : Bor (List ℕ)) (walk : ℕ → Walk) (answer : ℕ → Reached) → WalkOver file walk answer
+    (file : Bor (List ℕ)) (walk : ℕ → Walk) (answer : ℕ → Result (Option Stored) GoldenRefusal) → WalkOver file walk answer
     → bad_file file.now ≡ true → (k : ℕ) → told_reached (answer k) ≡ step.refused (plainly 21)
 
 -- the message that a step answers lies where the stored length says
@@ -215,7 +214,7 @@ pub record MadeGood (m exit : List ℕ) : Type 0 where
   pub finds : finding exit (name_of fields) ≡ found 0 1
 
 abbrev pub MadeIsGood : Type 0
-MadeIsGood = (m entry exit : List ℕ) (a : Making) → Makes m entry a exit → told_making a ≡ made → MadeGood m exit
+MadeIsGood = (m entry exit : List ℕ) (a : Result (Unit {0}) GoldenRefusal) → Makes m entry a exit → told_making a ≡ made → MadeGood m exit
 
 -- ---- 25 never carries reading number 1: 23 comes first
 
@@ -357,12 +356,12 @@ MakePassesOn = (m : List ℕ) (room number : ℕ) (r : Refusal) → making m roo
 
 abbrev pub RefusedComparisonKeepsList : Type 0
 RefusedComparisonKeepsList =
-    (f : List ℕ) (n : ℕ) (radio entry exit : List ℕ) (a : Comparison) (r : Refused)
+    (f : List ℕ) (n : ℕ) (radio entry exit : List ℕ) (a : Result ℕ GoldenRefusal) (r : Refused)
     → Compares f n radio entry a exit → told_comparison a ≡ refused r → exit ≡ entry
 
 abbrev pub RefusedMakingKeepsBuffer : Type 0
 RefusedMakingKeepsBuffer =
-    (m entry exit : List ℕ) (a : Making) (r : Refused) → Makes m entry a exit → told_making a ≡ refused r → exit ≡ entry
+    (m entry exit : List ℕ) (a : Result (Unit {0}) GoldenRefusal) (r : Refused) → Makes m entry a exit → told_making a ≡ refused r → exit ≡ entry
 
 -- ---- demand 3 for golden files: a change inside four neighbouring bytes of one record's message, before its integrity field or being it
 

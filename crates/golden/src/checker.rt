@@ -2,56 +2,34 @@
 ghost use Rattle.std.specs.Prelude.{false, ◌≡◌, ◌≤◌, ◌<◌, length};
 ghost use Rattle.envelope.specs.Told.{told_envelope};
 ghost use Rattle.golden.specs.Checking.{Checks};
-ghost use Rattle.golden.specs.File.{count_of, record_at};
+ghost use Rattle.golden.specs.File.{count_of};
 ghost use Rattle.golden.specs.Finding.{name_of, told_name};
-ghost use Rattle.golden.specs.Helpers.{is_written, written_before, repeats_by, buckets, bucket_of};
+ghost use Rattle.golden.specs.Helpers.{written_name, is_written, written_before, repeats_by, buckets, bucket_of};
 ghost use Rattle.golden.specs.Record.{record_size};
 
-use crate::file::{bad_file, count_of, open_at};
+use crate::file::{count, open_at, record_at};
 use crate::finder::Name;
-use crate::record::{GoodRecord, Opening, Record, is_retired};
-use crate::refusal::Refusal;
+use crate::record::{GoodRecord, Record, is_retired};
+use crate::refusal::{Refusal, RefusedAt};
 use envelope::numbers::{four_bytes, two_bytes};
 
 const BUCKETS: usize = 256;
 
-#[derive(Clone, Copy)]
-pub enum Checking {
-    Count(usize),
-    Refused { record: usize, refusal: Refusal },
-}
-
-pub fn check(file: &[u8]) -> Checking
+pub fn check(file: &[u8]) -> Result<usize, RefusedAt>
     ensures { Checks file.now result }
 {
-    if bad_file(file) {
-        return Checking::Refused {
-            record: 0,
-            refusal: Refusal::NotAGoldenFile,
-        };
-    }
-    let count = count_of(file);
+    let count = count(file)?;
     let mut used = [false; BUCKETS];
-    let mut n = 0;
-    while n < count {
-        match open_at(file, n) {
-            Opening::Bad(refusal) => {
-                return Checking::Refused { record: n, refusal };
-            }
-            Opening::Good(good) => {
-                let bucket = bucket_of(Name::of(good));
-                if is_repeated(file, good, n, used[bucket]) {
-                    return Checking::Refused {
-                        record: n,
-                        refusal: Refusal::NameTaken,
-                    };
-                }
-                used[bucket] = true;
-            }
+    for n in 0..count {
+        let good = open_at(file, n).map_err(|refusal| RefusedAt { record: n, refusal })?;
+        let bucket = bucket_of(Name::from(good));
+        if is_repeated(file, good, n, used[bucket]) {
+            let refusal = Refusal::NameTaken;
+            return Err(RefusedAt { record: n, refusal });
         }
-        n += 1;
+        used[bucket] = true;
     }
-    Checking::Count(n)
+    Ok(count)
 }
 
 // A bucket for each name, by type plus number. Names that follow each other in type or number have buckets apart; those a multiple of 256 apart share one.
@@ -66,10 +44,7 @@ fn is_repeated(file: &[u8], good: GoodRecord, n: usize, used: bool) -> bool
     requires { (n ≤ count_of file.now) × (used ≡ false → written_before file.now (name_of (told_envelope good.envelope)) n ≡ false) }
     ensures { result ≡ repeats_by good.retired (told_envelope good.envelope) file.now n }
 {
-    if good.retired {
-        return false;
-    }
-    name_taken(file, Name::of(good), n, used)
+    !good.retired && name_taken(file, Name::from(good), n, used)
 }
 
 // Whether a live record before `end` has the name. They are good, so the mark and the bytes of type and number tell it, and none is read again.
@@ -78,39 +53,26 @@ fn name_taken(file: &[u8], name: Name, end: usize, used: bool) -> bool
     requires { (end ≤ count_of file.now) × (used ≡ false → written_before file.now (told_name name) end ≡ false) }
     ensures { result ≡ written_before file.now (told_name name) end }
 {
-    if !used {
-        return false;
-    }
-    let mut earlier = 0;
-    while earlier < end {
-        if is_written_at(file, earlier, name) {
-            return true;
-        }
-        earlier += 1;
-    }
-    false
-}
-
-fn is_written_at(file: &[u8], n: usize, name: Name) -> bool
-    requires { n < count_of file.now }
-    ensures { result ≡ is_written (told_name name) (record_at file.now n) }
-{
-    let start = n * Record::SIZE;
-    let end = start + Record::SIZE;
-    is_written(&file[start..end], name)
+    used && (0..end).any(|earlier| is_written(record_at(file, earlier), name))
 }
 
 fn is_written(bytes: &[u8], name: Name) -> bool
     requires { length bytes.now ≡ record_size }
     ensures { result ≡ is_written (told_name name) bytes.now }
 {
-    if is_retired(bytes) {
-        return false;
-    }
+    !is_retired(bytes) && written_name(bytes) == name
+}
+
+fn written_name(bytes: &[u8]) -> Name
+    requires { length bytes.now ≡ record_size }
+    ensures { told_name result ≡ written_name bytes.now }
+{
     let at = Record::TYPE_PLACE;
-    if two_bytes(bytes[at], bytes[at + 1]) != name.message_type {
-        return false;
-    }
+    let message_type = two_bytes(bytes[at], bytes[at + 1]);
     let at = Record::NUMBER_PLACE;
-    four_bytes(bytes[at], bytes[at + 1], bytes[at + 2], bytes[at + 3]) == name.number
+    let number = four_bytes(bytes[at], bytes[at + 1], bytes[at + 2], bytes[at + 3]);
+    Name {
+        message_type,
+        number,
+    }
 }

@@ -1,32 +1,43 @@
 // The file rule, the count of a file, and one record of it.
-ghost use Rattle.std.specs.Prelude.{◌≡◌, ◌<◌};
-ghost use Rattle.golden.specs.File.{bad_file, count_of, record_at};
+ghost use Rattle.std.specs.Prelude.{not, ◌&&◌, ◌≡◌, ◌<◌, length};
+ghost use Rattle.golden.specs.File.{bad_file, count_of, not_there, record_at};
 ghost use Rattle.golden.specs.Helpers.{told_opening, opening};
+ghost use Rattle.golden.specs.Listing.{Counts};
+ghost use Rattle.golden.specs.Record.{record_size};
 
-use crate::record::{Opening, Record, open};
+use crate::record::{GoodRecord, Record, open};
+use crate::refusal::Refusal;
 
-// Refusal 21.
-pub(crate) fn bad_file(file: &[u8]) -> bool
-    ensures { result ≡ bad_file file.now }
+pub fn count(file: &[u8]) -> Result<usize, Refusal>
+    ensures { Counts file.now result }
 {
-    if file.len() % Record::SIZE != 0 {
-        return true;
+    if file.len() % Record::SIZE != 0 || Record::LARGEST_FILE < file.len() {
+        return Err(Refusal::NotAGoldenFile);
     }
-    Record::LARGEST_FILE < file.len()
+    Ok(file.len() / Record::SIZE)
 }
 
-pub(crate) fn count_of(file: &[u8]) -> usize
-    ensures { result ≡ count_of file.now }
+// Whether it is a golden file that has the record.
+pub(crate) fn has_record(file: &[u8], n: usize) -> bool
+    ensures { result ≡ (not (bad_file file.now) && not (not_there file.now n)) }
 {
-    file.len() / Record::SIZE
+    count(file).is_ok_and(|count| n < count)
 }
 
 // Judges a record that is there.
-pub(crate) fn open_at(file: &[u8], n: usize) -> Opening
+pub(crate) fn open_at(file: &[u8], n: usize) -> Result<GoodRecord, Refusal>
     requires { n < count_of file.now }
     ensures { told_opening result ≡ opening (record_at file.now n) }
 {
+    open(record_at(file, n))
+}
+
+// The bytes of a record that is there.
+pub(crate) fn record_at(file: &[u8], n: usize) -> &[u8]
+    requires { n < count_of file.now }
+    ensures bytes { result.now ≡ record_at file.now n }
+    ensures whole { length result.now ≡ record_size }
+{
     let start = n * Record::SIZE;
-    let end = start + Record::SIZE;
-    open(&file[start..end])
+    &file[start..start + Record::SIZE]
 }

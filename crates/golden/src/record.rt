@@ -6,7 +6,7 @@ ghost use Rattle.golden.specs.Record.{record_size, message_room, stored_word, is
 
 use crate::refusal::Refusal;
 use envelope::numbers::{two_bytes, two_digits};
-use envelope::{Envelope, Reading, read};
+use envelope::{Envelope, read};
 
 #[derive(Clone, Copy)]
 pub struct Record {
@@ -19,12 +19,6 @@ pub struct GoodRecord {
     pub size: usize,
     pub retired: bool,
     pub envelope: Envelope,
-}
-
-#[derive(Clone, Copy)]
-pub(crate) enum Opening {
-    Good(GoodRecord),
-    Bad(Refusal),
 }
 
 impl Record {
@@ -62,26 +56,24 @@ impl Record {
 }
 
 // Judges the bytes of one record.
-pub(crate) fn open(bytes: &[u8]) -> Opening
+pub(crate) fn open(bytes: &[u8]) -> Result<GoodRecord, Refusal>
     requires { length bytes.now ≡ record_size }
     ensures { told_opening result ≡ opening bytes.now }
 {
     let size = stored_length(bytes);
     if bad_length(size) {
-        return Opening::Bad(Refusal::BadLength);
+        return Err(Refusal::BadLength);
     }
     let end = Record::HEAD_SIZE + size;
     if !all_zero(&bytes[end..]) {
-        return Opening::Bad(Refusal::NotClear);
+        return Err(Refusal::NotClear);
     }
-    match read(&bytes[Record::HEAD_SIZE..end]) {
-        Reading::Accepted(envelope) => Opening::Good(GoodRecord {
-            size,
-            retired: is_retired(bytes),
-            envelope,
-        }),
-        Reading::Refused(refusal) => Opening::Bad(Refusal::RecordRefused(refusal)),
-    }
+    let envelope = read(&bytes[Record::HEAD_SIZE..end]).map_err(Refusal::RecordRefused)?;
+    Ok(GoodRecord {
+        size,
+        retired: is_retired(bytes),
+        envelope,
+    })
 }
 
 pub(crate) fn stored_length(bytes: &[u8]) -> usize
@@ -108,21 +100,11 @@ fn stored_word(bytes: &[u8]) -> u16
 fn bad_length(size: usize) -> bool
     ensures { result ≡ bad_length size }
 {
-    if size < Envelope::LEAST_SIZE {
-        return true;
-    }
-    Record::MESSAGE_ROOM < size
+    size < Envelope::LEAST_SIZE || Record::MESSAGE_ROOM < size
 }
 
 fn all_zero(bytes: &[u8]) -> bool
     ensures { result ≡ all_zero bytes.now }
 {
-    let mut i = 0;
-    while i < bytes.len() {
-        if bytes[i] != 0 {
-            return false;
-        }
-        i += 1;
-    }
-    true
+    bytes.iter().all(|byte| *byte == 0)
 }

@@ -23,17 +23,35 @@ pub enum Refusal {
     RecordRetired,
 }
 
-impl Refusal {
-    // The numbers of the table of refusals. In two steps, for of one large match the compiler makes a table in the archive.
-    pub fn numbers(self) -> Numbers
-        ensures { NumbersGoldenRefusal self result }
-    {
-        match self {
-            Refusal::RecordRefused(refusal) => Numbers::passing_on(25, refusal),
-            _ => self.other_numbers(),
+// A refusal, and the number of the record that it names.
+#[derive(Clone, Copy)]
+pub struct RefusedAt {
+    pub record: usize,
+    pub refusal: Refusal,
+}
+
+// What is no golden file is refused at record 0.
+impl From<Refusal> for RefusedAt {
+    ghost from_gives = { λ refusal at. at ≡ record { «record» = 0; refusal = refusal } };
+
+    fn from(refusal: Refusal) -> RefusedAt {
+        RefusedAt { record: 0, refusal }
+    }
+}
+
+// The numbers of the table of refusals. In two steps, for of one large match the compiler makes a table in the archive.
+impl From<Refusal> for Numbers {
+    ghost from_gives = { NumbersGoldenRefusal };
+
+    fn from(refusal: Refusal) -> Numbers {
+        match refusal {
+            Refusal::RecordRefused(passed) => Numbers::passing_on(25, passed),
+            _ => refusal.other_numbers(),
         }
     }
+}
 
+impl Refusal {
     fn other_numbers(self) -> Numbers
         requires { is_record_refused self ≡ false }
         ensures { NumbersGoldenRefusal self result }
@@ -75,10 +93,10 @@ fn number_of(row: u8) -> u8
     ensures { result ≡ row_number row }
 {
     if row < 7 {
-        return 21 + row;
+        21 + row
+    } else if row < 8 {
+        31
+    } else {
+        25 + row
     }
-    if row < 8 {
-        return 31;
-    }
-    25 + row
 }

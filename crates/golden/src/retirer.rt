@@ -4,43 +4,28 @@ ghost use Rattle.golden.specs.Retiring.{marked, done, retiring, told_retiring, R
 
 use crate::record::Record;
 use crate::refusal::Refusal;
-use crate::stepper::{Reached, answer_at};
+use crate::stepper::answer_at;
 
-#[derive(Clone, Copy)]
-pub enum Retiring {
-    Done,
-    Refused(Refusal),
-}
-
-pub fn retire(file: &[u8], n: usize, buffer: &mut [u8]) -> Retiring
+pub fn retire(file: &[u8], n: usize, buffer: &mut [u8]) -> Result<(), Refusal>
     ensures { Retires file.now n buffer.old result buffer.new }
 {
-    match judge(file, n, buffer.len()) {
-        Retiring::Refused(refusal) => Retiring::Refused(refusal),
-        Retiring::Done => {
-            put_marked(file, n, buffer);
-            Retiring::Done
-        }
-    }
+    judge(file, n, buffer.len())?;
+    put_marked(file, n, buffer);
+    Ok(())
 }
 
 // The answer, for a buffer of so many bytes.
-fn judge(file: &[u8], n: usize, room: usize) -> Retiring
+fn judge(file: &[u8], n: usize, room: usize) -> Result<(), Refusal>
     ensures { told_retiring result ≡ retiring file.now n room }
 {
-    match answer_at(file, n) {
-        Reached::Refused(refusal) => Retiring::Refused(refusal),
-        Reached::End => Retiring::Refused(Refusal::NoRecord),
-        Reached::Message { part: _, retired } => {
-            if retired {
-                return Retiring::Refused(Refusal::AlreadyRetired);
-            }
-            if room != file.len() {
-                return Retiring::Refused(Refusal::WrongCopy);
-            }
-            Retiring::Done
-        }
+    let stored = answer_at(file, n)?.ok_or(Refusal::NoRecord)?;
+    if stored.retired {
+        return Err(Refusal::AlreadyRetired);
     }
+    if room != file.len() {
+        return Err(Refusal::WrongCopy);
+    }
+    Ok(())
 }
 
 fn put_marked(file: &[u8], n: usize, buffer: &mut [u8])

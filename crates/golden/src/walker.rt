@@ -1,7 +1,8 @@
 // A walk over a golden file: the lent file and the number of the next record, over the step on a file and a number.
 ghost use Rattle.golden.specs.Walking.{Begins, Walks};
 
-use crate::stepper::{Reached, step};
+use crate::refusal::Refusal;
+use crate::stepper::{Stored, step};
 
 #[derive(Clone, Copy)]
 pub struct Walk<'a> {
@@ -16,7 +17,7 @@ impl<'a> Walk<'a> {
         Walk { file, next: 0 }
     }
 
-    pub fn step(&mut self) -> Reached
+    pub fn step(&mut self) -> Result<Option<Stored>, Refusal>
         ensures { Walks self.old result self.new }
     {
         let stepping = step(self.file, self.next);

@@ -1,23 +1,17 @@
--- `checker::name_taken`: the record found, the records seen, or where no bucket was used, none at all.
-use mathlib.Core.Path.{sym, ◌∙◌}
+-- `checker::name_taken`: one of the records seen has the name; or where no bucket was used, none has.
+use mathlib.Core.Path.{◌∙◌}
 use native.Mathlib.Omega.{arith}
-use Rattle.golden.proofs.PairingLaws.{below_start, below_on, below_one, below_end}
+use Rattle.std.proofs.Common.{rules, tests}
+use Rattle.std.proofs.lemmas.Iterator.{YieldsList-from_range}
+use Rattle.std.proofs.lemmas.Iterator.Search.{any_from_yields_List}
+use Rattle.golden.proofs.PairingLaws.{any_of_range}
+use Rattle.golden.specs.File.{record_at}
+use Rattle.golden.specs.Finding.{told_name}
+use Rattle.golden.specs.Helpers.{is_written}
 use Rattle.golden.proofs.checker.name_taken.Goals as goal
 
-pub returns-then-not-used : goal.returns-then-not-used
-returns-then-not-used c = sym (c.requires.1 c.if-not-used.true)
-
-pub loop-earlier-init : goal.loop-earlier-init
-loop-earlier-init c = (omega arith, below_start _)
-
-pub is_written_at-requires : goal.is_written_at-requires
-is_written_at-requires c = omega arith
-
-pub returns-then-is_written_at : goal.returns-then-is_written_at
-returns-then-is_written_at c = sym (below_one _ _ _ c.loop-earlier-test.true (sym c.is_written_at.ensures ∙ c.if-is_written_at.true))
-
-pub loop-earlier-preserved : goal.loop-earlier-preserved
-loop-earlier-preserved c = (omega arith, below_on _ _ c.loop-earlier.invariant.1 (sym c.is_written_at.ensures ∙ c.if-is_written_at.false))
-
-pub returns : goal.returns
-returns c = below_end _ _ _ c.loop-earlier.invariant.1 c.loop-earlier.invariant.0 c.loop-earlier-test.false
+pub returns-then-used : goal.returns-then-used
+returns-then-used c =
+    let n = c.args.end in
+    any_from_yields_List (λ k. is_written (told_name c.args.name) (record_at c.args.file.now k)) _ _ c.any.result c.any.ensures.ran (YieldsList-from_range 0 n n (cc) (omega arith)) (λ x b q k. search (rules, tests))
+    ∙ any_of_range (λ k. is_written (told_name c.args.name) (record_at c.args.file.now k)) n

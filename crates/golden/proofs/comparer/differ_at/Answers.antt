@@ -1,16 +1,13 @@
 -- `comparer::differ_at`: past one of the ends they differ, and else where their bytes do.
-use borrow.Author.Tests.{le-leb, lt-leb}
+use Rattle.std.proofs.Common.{arith}
+use Rattle.std.proofs.lemmas.Bool.Decides.{nat_tests}
 use Rattle.golden.specs.Comparing.{differs_at}
 use Rattle.golden.proofs.comparer.differ_at.Goals as goal
 
-pub returns-then-golden-position : goal.returns-then-golden-position
-unfolding differs_at
-returns-then-golden-position c = simp (le-leb _ _ c.if-golden-position.true)
-
 pub returns-then-radio-position : goal.returns-then-radio-position
 unfolding differs_at
-returns-then-radio-position c = simp (lt-leb _ _ c.if-golden-position.false, le-leb _ _ c.if-radio-position.true)
+returns-then-radio-position c = grind (arith, nat_tests)
 
-pub returns : goal.returns
+pub returns-else-radio-position : goal.returns-else-radio-position
 unfolding differs_at
-returns c = simp (lt-leb _ _ c.if-golden-position.false, lt-leb _ _ c.if-radio-position.false)
+returns-else-radio-position c = grind (arith, nat_tests)

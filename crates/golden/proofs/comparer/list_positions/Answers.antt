@@ -1,31 +1,21 @@
--- `comparer::list_positions`: each position stays below 2 ^ 32, and the last one leaves the definition's list.
-use Prim.Native.Nat.{◌^◌}
-use native.Mathlib.Omega.{arith}
-use Rattle.golden.proofs.ComparingLaws.{longer_below}
-use Rattle.golden.proofs.PositionLaws.{going_start, going_on, going_end}
+-- `comparer::list_positions`: the last position leaves the definition's list.
+use mathlib.Core.Path.{◌∙◌}
+use Rattle.golden.proofs.ComparingLaws.{marked, passed_over, longer_is}
+use Rattle.golden.proofs.PositionLaws.{going_on, going_end}
 use Rattle.golden.specs.Comparing.{differing}
 use Rattle.golden.proofs.comparer.list_positions.Goals as goal
-
-pub loop-position-init : goal.loop-position-init
-loop-position-init c = going_start _ _ _
-
-pub mark-total-requires : goal.mark-total-requires
-mark-total-requires c =
-    omega (arith, c.longer_length-end.ensures, longer_below c.args.golden.now c.args.radio.now (2 ^ 32) c.requires.0 c.requires.1)
-
-pub overflow_add-position : goal.overflow_add-position
-overflow_add-position c =
-    omega (arith, c.longer_length-end.ensures, longer_below c.args.golden.now c.args.radio.now (2 ^ 32) c.requires.0 c.requires.1)
-
-pub loop-position-smaller : goal.loop-position-smaller
-loop-position-smaller c = omega arith
+use Rattle.golden.proofs.comparer.list_positions.Goals.{then-differ_at, else-differ_at}
 
 pub loop-position-preserved : goal.loop-position-preserved
-loop-position-preserved c = going_on _ _ _ _ _ _ _ _ c.loop-position.invariant c.loop-position-test.true c.mark-total.ensures.0 c.mark-total.ensures.1 c.mark-total.auto.list
-
-pub shape_of-list : goal.shape_of-list
-shape_of-list c = c.loop-position.invariant.same
+loop-position-preserved c = elim c.if-differ_at.branch [
+  | then-differ_at w ↦
+      let m = marked _ _ _ _ _ _ c.differ_at.ensures w.if-differ_at.true w.note.ensures in
+      going_on _ _ _ _ _ _ _ _ c.loop-position.invariant c.loop-position-test.true (w.total-is ∙ m.0) (w.list-is ∙ m.1) c.if-differ_at.auto.list
+  | else-differ_at w ↦
+      let m = passed_over _ _ _ _ _ c.differ_at.ensures w.if-differ_at.false in
+      going_on _ _ _ _ _ _ _ _ c.loop-position.invariant c.loop-position-test.true (w.total-is ∙ m.0) (w.list-is ∙ m.1) c.if-differ_at.auto.list
+]
 
 pub returns : goal.returns
 unfolding differing
-returns c = rw (← c.longer_length-end.ensures) (going_end _ _ _ _ _ _ c.loop-position.invariant c.loop-position-test.false)
+returns c = rw (← longer_is c.args.golden.now c.args.radio.now, ← c.max-end.ensures) (going_end _ _ _ _ _ _ c.loop-position.invariant c.loop-position-test.false)

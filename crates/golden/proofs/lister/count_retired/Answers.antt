@@ -1,32 +1,41 @@
 -- `lister::count_retired`: each record adds one or nothing, so the sum is at most the number of records seen.
-use mathlib.Core.Path.{◌≡◌, ap, sym, ◌∙◌}
+use mathlib.Core.Path.{◌≡◌, ap, ◌∙◌}
 use native.Mathlib.Omega.{arith}
-use Rattle.golden.proofs.CountLaws.{opened_retired_lem, none_below, one_on}
-use Rattle.golden.specs.Helpers.{opened_retired}
+use Rattle.std.proofs.Common.{rules}
+use Rattle.std.proofs.lemmas.Result.{err_from_is_err_and}
+use Rattle.golden.proofs.CountLaws.{one_or_none, none_below, one_on}
+use Rattle.golden.proofs.FileLaws.{counted_so, uncounted_so}
 use Rattle.golden.specs.Listing.{counted, retired_below, counting_retired}
 use Rattle.golden.proofs.lister.count_retired.Goals as goal
+use Rattle.golden.proofs.lister.count_retired.Goals.{then-is_ok_and, else-is_ok_and}
 
-pub returns-then-bad_file : goal.returns-then-bad_file
+pub returns-in_err-count : goal.returns-in_err-count
 unfolding counting_retired
-returns-then-bad_file c = rw (sym c.bad_file.ensures ∙ c.if-bad_file.true)
+returns-in_err-count c =
+    let p = err_from_is_err_and c.from_residual.result c.from_residual.ensures.1 in
+    let u = uncounted_so _ _ c.in_err-count.ensures in
+    rw (p.1, p.2, u.0, u.1)
 
 pub loop-n-init : goal.loop-n-init
-loop-n-init c = (omega arith, none_below _, omega arith)
+loop-n-init c = (none_below _, omega arith)
 
 pub open_at-requires : goal.open_at-requires
-open_at-requires c = omega (arith, c.count_of-count.ensures)
+open_at-requires c = omega (arith, (counted_so _ _ c.in_ok-count.ensures).1)
 
 pub loop-n-preserved : goal.loop-n-preserved
-loop-n-preserved c = (
-  omega arith,
-  one_on _ _ _ _ c.loop-n.invariant.1
-      (c.one_if_retired-retired.ensures.0 ∙ ap opened_retired c.open_at.ensures ∙ opened_retired_lem _ _),
-  omega (arith, c.loop-n.invariant.2, c.one_if_retired-retired.ensures.1),
-)
+loop-n-preserved c =
+    let here = one_or_none c.args.file.now c.loop-n.n _ _ _ (λ g p. search rules) c.open_at.ensures c.is_ok_and.ensures in
+    elim c.if-is_ok_and.branch [
+      | then-is_ok_and w ↦
+          (w.retired-is ∙ one_on _ _ _ _ c.loop-n.invariant.0 (rw w.if-is_ok_and.true at here), omega (arith, w.retired-is, c.loop-n.invariant.1))
+      | else-is_ok_and w ↦
+          let on = one_on _ _ _ _ c.loop-n.invariant.0 (rw w.if-is_ok_and.false at here) in
+          (omega (arith, w.retired-is, on), omega (arith, w.retired-is, c.loop-n.invariant.1))
+    ]
 
 pub returns : goal.returns
 unfolding counting_retired
 returns c =
-    let all : c.loop-n.n ≡ c.count_of-count.result = omega (arith, c.loop-n.invariant.0, c.loop-n-test.false) in
-    rw (sym c.bad_file.ensures ∙ c.if-bad_file.false)
-    (ap counted (c.loop-n.invariant.1 ∙ ap (retired_below _) (all ∙ c.count_of-count.ensures)))
+    let k = counted_so _ _ c.in_ok-count.ensures in
+    let all : c.loop-n.n ≡ c.in_ok-count.count = omega (arith, c.loop-n.auto.n-end, c.loop-n-test.false) in
+    rw k.0 (ap counted (c.loop-n.invariant.0 ∙ ap (retired_below _) (all ∙ k.1)))

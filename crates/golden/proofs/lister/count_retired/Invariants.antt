@@ -1,11 +1,8 @@
 -- The loop of `lister::count_retired`: what is counted so far is the count of the records seen.
 use mathlib.Core.Path.{◌≡◌}
-use Prim.Native.Nat.{◌-◌, ◌≤◌}
+use Prim.Native.Nat.{◌≤◌}
 use Rattle.golden.specs.Listing.{retired_below}
 use Rattle.golden.proofs.lister.count_retired.Given as goal
 
 abbrev pub invariant-loop-n : goal.invariant-loop-n
-invariant-loop-n l = (l.n ≤ l.count) × (l.retired ≡ retired_below l.file l.n) × (l.retired ≤ l.n)
-
-abbrev pub decreases-loop-n : goal.decreases-loop-n
-decreases-loop-n l = l.count - l.n
+invariant-loop-n l = (l.retired ≡ retired_below l.file l.n) × (l.retired ≤ l.n)

@@ -1,61 +1,66 @@
 -- `orderer::ascending`: each record is good and in place, or the first that is not is named, or all ascend.
-use mathlib.Core.Bool.{◌||◌}
+use mathlib.Core.Bool.{not}
 use mathlib.Core.Path.{◌≡◌, refl, ap, sym, ◌∙◌}
 use native.Mathlib.Omega.{arith}
-use lib.Dec.{eqb}
+use Rattle.std.proofs.Common.{rules}
+use Rattle.std.proofs.lemmas.Result.{err_from_is_err_and}
 use Rattle.envelope.specs.Told.{told_envelope}
-use Rattle.golden.proofs.FindingLaws.{judged_bad, judged_good}
-use Rattle.golden.proofs.OrderingLaws.{order_21, order_all, order_start, order_on, order_end, placed}
+use Rattle.golden.proofs.FileLaws.{counted_so}
+use Rattle.golden.proofs.MappedLaws.{kept_ok, made_err}
+use Rattle.golden.proofs.FindingLaws.{opened_good, opened_bad}
+use Rattle.golden.proofs.OrderingLaws.{order_uncounted, order_all, order_on, order_end, placed, comes_after, after_so}
 use Rattle.golden.specs.File.{judged_at}
-use Rattle.golden.specs.Finding.{NameFields, told_name}
-use Rattle.golden.specs.Halving.{precedes}
-use Rattle.golden.specs.Helpers.{told_opening}
-use Rattle.golden.specs.Ordering.{in_place}
+use Rattle.golden.specs.Ordering.{OrderAnswer, in_place, order_from, ordering}
 use Rattle.golden.specs.Record.{good}
 use Rattle.golden.proofs.orderer.ascending.Goals as goal
-use Rattle.golden.proofs.orderer.ascending.Goals.{In-Good, After-is_in_place}
+use Rattle.golden.proofs.orderer.ascending.Goals.{In_ok-count, In_ok-good, After-is_some_and}
+
+-- what the records from n on give, all of them give
+all_give : (c : In_ok-count) (x : OrderAnswer) → order_from c.args.file.now 0 c.in_ok-count.count ≡ x → x ≡ ordering c.args.file.now
+all_give c x e =
+    let k = counted_so _ _ c.in_ok-count.ensures in
+    order_all _ k.0 x (ap (order_from _ 0) (sym k.1) ∙ e)
 
 -- the record at hand is good
-good_here : (c : In-Good) → judged_at c.args.file.now c.loop-n.n ≡ good c.in-Good.good.retired (told_envelope c.in-Good.good.envelope)
-good_here c = (judged_good _ _ _ _ _ (ap told_opening (sym c.in-Good.is) ∙ c.open_at.ensures)).0
+good_here : (c : In_ok-good) → judged_at c.args.file.now c.loop-n.n-counter ≡ good c.in_ok-good.good.retired (told_envelope c.in_ok-good.good.envelope)
+good_here c = opened_good _ _ _ (kept_ok _ _ _ c.map_err.ensures.cases _ c.in_ok-good.was) c.open_at.ensures
 
--- and in place, or not
-place_here : (c : After-is_in_place) → in_place c.args.file.now c.loop-n.n ≡ c.is_in_place.result
-place_here c =
-    placed _ _ _ _ _ (judged_good _ _ _ _ _ (ap told_opening (sym c.in-Good.is) ∙ c.open_at.ensures)).0 c.loop-n.invariant.2
-    ∙ ap (λ (name : NameFields). eqb c.loop-n.n 0 || precedes (told_name c.loop-n.last) name) (sym c.of-name.ensures)
-    ∙ sym c.is_in_place.ensures
-
-pub returns-then-bad_file : goal.returns-then-bad_file
-returns-then-bad_file c = order_21 _ (sym c.bad_file.ensures ∙ c.if-bad_file.true)
-
-pub loop-n-init : goal.loop-n-init
-loop-n-init c = (omega arith, order_start _ _, λ k e. absurd (omega (arith, e)))
+pub returns-in_err-count : goal.returns-in_err-count
+returns-in_err-count c =
+    let p = err_from_is_err_and c.from_residual.result c.from_residual.ensures.1 in
+    rw (p.1, p.2) (order_uncounted _ _ c.in_err-count.ensures)
 
 pub open_at-requires : goal.open_at-requires
-open_at-requires c = omega arith
+open_at-requires c = omega (arith, (counted_so _ _ c.in_ok-count.ensures).1)
 
-pub returns-in-Bad : goal.returns-in-Bad
-returns-in-Bad c =
-    order_all _ (sym c.bad_file.ensures ∙ c.if-bad_file.false) _
-    (rw (← c.count_of-count.ensures)
-    (c.loop-n.invariant.1 ∙ order_on _ _ _ c.loop-n-test.true _ refl _ (judged_bad _ _ _ (ap told_opening (sym c.in-Bad.is) ∙ c.open_at.ensures))))
+pub returns-in_err-good : goal.returns-in_err-good
+returns-in_err-good c =
+    let p = err_from_is_err_and c.from_residual-in_err-good.result c.from_residual-in_err-good.ensures.1 in
+    let b = made_err _ _ _ c.map_err.ensures.cases _ c.in_err-good.was in
+    let made : c.in_err-good.field-0.0 ≡ record { «record» = c.loop-n.n-counter; refusal = b.0 } = search (rules, b.1) in
+    rw (p.1, p.2, made)
+    (all_give (goal.at.returns-in_err-good c).In_ok-count _ (c.loop-n.invariant.0 ∙ order_on _ _ _ c.loop-n-test.true _ refl _ (opened_bad _ _ _ b.2 c.open_at.ensures)))
 
-pub returns-then-not-is_in_place : goal.returns-then-not-is_in_place
-returns-then-not-is_in_place c =
-    order_all _ (sym c.bad_file.ensures ∙ c.if-bad_file.false) _
-    (rw (← c.count_of-count.ensures)
-    (c.loop-n.invariant.1 ∙ order_on _ _ _ c.loop-n-test.true _ (place_here (goal.at.returns-then-not-is_in_place c).After-is_in_place ∙ c.if-not-is_in_place.true) _ (good_here (goal.at.returns-then-not-is_in_place c).In-Good)))
+-- and in place, or not
+place_here : (c : After-is_some_and) → in_place c.args.file.now c.loop-n.n-counter ≡ not c.is_some_and.result
+place_here c =
+    let here = opened_good _ _ _ (kept_ok _ _ _ c.map_err.ensures.cases _ c.in_ok-good.was) c.open_at.ensures in
+    placed _ _ c.loop-n.last _ _ here c.loop-n.invariant.1
+    ∙ ap (comes_after c.loop-n.last) (sym c.from-name.ensures)
+    ∙ after_so c.from-name.result c.loop-n.last _ _ (λ x p. search rules) c.is_some_and.ensures
+
+pub returns-then-is_some_and : goal.returns-then-is_some_and
+returns-then-is_some_and c =
+    all_give (goal.at.returns-then-is_some_and c).In_ok-count _
+    (c.loop-n.invariant.0
+    ∙ order_on _ _ _ c.loop-n-test.true _ (place_here (goal.at.returns-then-is_some_and c).After-is_some_and ∙ ap not c.if-is_some_and.true) _ (good_here (goal.at.returns-then-is_some_and c).In_ok-good))
 
 pub loop-n-preserved : goal.loop-n-preserved
 loop-n-preserved c =
-    let here = good_here (goal.at.loop-n-preserved c).In-Good in (
-      omega arith,
-      c.loop-n.invariant.1 ∙ order_on _ _ _ c.loop-n-test.true _ (place_here (goal.at.loop-n-preserved c).After-is_in_place ∙ c.if-not-is_in_place.false) _ here,
-      λ k e. let q : k ≡ c.loop-n.n = omega (arith, e) in rw q (record { retired = _; fields = _; judged = here; named = sym c.of-name.ensures }),
+    let here = good_here (goal.at.loop-n-preserved c).In_ok-good in (
+      c.loop-n.invariant.0 ∙ order_on _ _ _ c.loop-n-test.true _ (place_here (goal.at.loop-n-preserved c).After-is_some_and ∙ ap not c.if-is_some_and.false) _ here,
+      (c.loop-n.n-counter, omega arith, record { retired = _; fields = _; judged = here; named = sym c.from-name.ensures }),
     )
 
 pub returns : goal.returns
-returns c =
-    order_all _ (sym c.bad_file.ensures ∙ c.if-bad_file.false) _
-    (rw (← c.count_of-count.ensures) (c.loop-n.invariant.1 ∙ order_end _ _ _ c.loop-n-test.false))
+returns c = all_give (goal.at.returns c).In_ok-count _ (c.loop-n.invariant.0 ∙ order_end _ _ _ c.loop-n-test.false)

@@ -7,6 +7,6 @@ pub returns-then-size-lt-LEAST_SIZE : goal.returns-then-size-lt-LEAST_SIZE
 unfolding bad_length
 returns-then-size-lt-LEAST_SIZE c = simp (lt-ltb _ _ c.if-size-lt-LEAST_SIZE.true)
 
-pub returns : goal.returns
+pub returns-else-size-lt-LEAST_SIZE : goal.returns-else-size-lt-LEAST_SIZE
 unfolding bad_length
-returns c = simp (le-ltb _ _ c.if-size-lt-LEAST_SIZE.false)
+returns-else-size-lt-LEAST_SIZE c = simp (le-ltb _ _ c.if-size-lt-LEAST_SIZE.false)

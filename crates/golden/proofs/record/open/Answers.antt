@@ -1,13 +1,15 @@
 -- `record::open` judges length, zeros and message in that order.
-use mathlib.Core.Path.{refl, ap, sym, ◌∙◌}
+use mathlib.Core.Path.{◌≡◌, refl, ap, sym, ◌∙◌}
 use Prim.Native.Nat.{◌≤◌}
 use native.Mathlib.Omega.{arith}
-use Rattle.envelope.specs.Fields.{Answer}
 use Rattle.envelope.specs.Told.{told}
+use Rattle.std.proofs.Common.{rules}
+use Rattle.std.proofs.lemmas.Result.{err_from_is_err_and}
+use Rattle.golden.proofs.MappedLaws.{kept_ok, made_err}
+use Rattle.golden.specs.declared.refusal.Refusal.TheVariants.{RecordRefused}
 use Rattle.golden.proofs.OpeningLaws.{opened_23, opened_24, opened_by}
 use Rattle.golden.proofs.RecordLaws.{length_most}
-use Rattle.golden.specs.Helpers.{opened_as}
-use Rattle.golden.specs.Record.{message_room, is_retired, by_reading}
+use Rattle.golden.specs.Record.{message_room, is_retired}
 use Rattle.golden.proofs.record.open.Goals as goal
 use Rattle.golden.proofs.record.open.Goals.{Else-bad_length}
 
@@ -34,13 +36,15 @@ returns-then-not-all_zero c =
 pub slice_bounds-read-end : goal.slice_bounds-read-end
 slice_bounds-read-end c = let k = short (goal.at.slice_bounds-read-end c).Else-bad_length in omega arith
 
-pub returns-in-Accepted : goal.returns-in-Accepted
-returns-in-Accepted c =
-    ap (λ (a : Answer). opened_as c.stored_length-size.result (by_reading c.is_retired.result a)) (ap told (sym c.in-Accepted.is))
-    ∙ opened_by _ _ c.stored_length-size.ensures (sym c.bad_length.ensures ∙ c.if-bad_length.false) _ c.all_zero.ensures c.if-not-all_zero.false _ c.is_retired.ensures _ c.read.ensures
+pub returns-in_err-envelope : goal.returns-in_err-envelope
+returns-in_err-envelope c =
+    let p = err_from_is_err_and c.from_residual.result c.from_residual.ensures.1 in
+    let m = made_err _ _ _ c.map_err.ensures.cases _ c.in_err-envelope.was in
+    let made : c.in_err-envelope.field-0.0 ≡ RecordRefused m.0 = search (rules, m.1) in
+    rw (p.1, p.2, made)
+    (opened_by _ _ c.stored_length-size.ensures (sym c.bad_length.ensures ∙ c.if-bad_length.false) _ c.all_zero.ensures c.if-not-all_zero.false (is_retired c.args.bytes.now) refl _ (ap told (sym m.2) ∙ c.read.ensures))
 
-pub returns-in-Refused : goal.returns-in-Refused
-returns-in-Refused c =
-    let mark = is_retired c.args.bytes.now in
-    ap (λ (a : Answer). opened_as c.stored_length-size.result (by_reading mark a)) (ap told (sym c.in-Refused.is))
-    ∙ opened_by _ _ c.stored_length-size.ensures (sym c.bad_length.ensures ∙ c.if-bad_length.false) _ c.all_zero.ensures c.if-not-all_zero.false mark refl _ c.read.ensures
+pub returns : goal.returns
+returns c =
+    let k = kept_ok _ _ _ c.map_err.ensures.cases _ c.in_ok-envelope.was in
+    opened_by _ _ c.stored_length-size.ensures (sym c.bad_length.ensures ∙ c.if-bad_length.false) _ c.all_zero.ensures c.if-not-all_zero.false _ c.is_retired.ensures _ (ap told (sym k) ∙ c.read.ensures)

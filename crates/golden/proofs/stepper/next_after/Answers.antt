@@ -1,17 +1,10 @@
--- `stepper::next_after` stays at 21 and at the end, and else goes one on.
+-- `stepper::next_after` goes one on where there is a record, and else stays.
 use mathlib.Core.Path.{sym, ◌∙◌}
-use borrow.Author.Tests.{le-leb, lt-leb}
-use Rattle.golden.specs.Stepping.{next_after}
+use Rattle.golden.proofs.SteppingLaws.{next_on_lem, next_stays_lem}
 use Rattle.golden.proofs.stepper.next_after.Goals as goal
 
-pub returns-then-bad_file : goal.returns-then-bad_file
-unfolding next_after
-returns-then-bad_file c = rw (sym c.bad_file.ensures ∙ c.if-bad_file.true)
+pub returns-then-has_record : goal.returns-then-has_record
+returns-then-has_record c = next_on_lem _ _ (sym c.has_record.ensures ∙ c.if-has_record.true)
 
-pub returns-then-count_of-n : goal.returns-then-count_of-n
-unfolding next_after
-returns-then-count_of-n c = rw (sym c.bad_file.ensures ∙ c.if-bad_file.false, ← c.count_of.ensures, le-leb _ _ c.if-count_of-n.true)
-
-pub returns : goal.returns
-unfolding next_after
-returns c = rw (sym c.bad_file.ensures ∙ c.if-bad_file.false, ← c.count_of.ensures, lt-leb _ _ c.if-count_of-n.false)
+pub returns-else-has_record : goal.returns-else-has_record
+returns-else-has_record c = next_stays_lem _ _ (sym c.has_record.ensures ∙ c.if-has_record.false)

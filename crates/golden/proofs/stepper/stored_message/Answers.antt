@@ -1,18 +1,11 @@
 -- `stepper::stored_message`: nowhere at 21 and past the end, and else by the record's stored length.
-use mathlib.Core.Path.{sym, ◌∙◌}
-use borrow.Author.Tests.{le-leb}
-use Rattle.golden.proofs.SteppingLaws.{there_stored}
-use Rattle.golden.specs.Stepping.{stored_message}
+use mathlib.Core.Path.{ap, sym, ◌∙◌}
+use Rattle.golden.proofs.SteppingLaws.{stored_nowhere, stored_there}
+use Rattle.golden.specs.Record.{stored_length}
 use Rattle.golden.proofs.stepper.stored_message.Goals as goal
 
-pub returns-then-bad_file : goal.returns-then-bad_file
-unfolding stored_message
-returns-then-bad_file c = rw (sym c.bad_file.ensures ∙ c.if-bad_file.true)
-
-pub returns-then-count_of-n : goal.returns-then-count_of-n
-unfolding stored_message
-returns-then-count_of-n c = rw (sym c.bad_file.ensures ∙ c.if-bad_file.false, ← c.count_of.ensures, le-leb _ _ c.if-count_of-n.true)
+pub returns-then-not-has_record : goal.returns-then-not-has_record
+returns-then-not-has_record c = stored_nowhere _ _ (sym c.has_record.ensures ∙ c.if-not-has_record.true)
 
 pub returns : goal.returns
-returns c =
-    there_stored _ c.args.n _ c.count_of.ensures (sym c.bad_file.ensures ∙ c.if-bad_file.false) c.if-count_of-n.false _ c.stored_length-size.ensures
+returns c = stored_there _ c.args.n (sym c.has_record.ensures ∙ c.if-not-has_record.false) _ (c.stored_length.ensures ∙ ap stored_length c.record_at.ensures.bytes)
