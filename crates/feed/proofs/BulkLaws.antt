@@ -14,7 +14,7 @@ use Rattle.envelope.specs.Fields.{Answer, accepted, refused as refusedMessage}
 use Rattle.envelope.specs.Layout.{header_size}
 use Rattle.envelope.specs.Reading.{reading}
 use Rattle.feed.specs.Feeding.{FeedOutcome, closing, further_by, nothing, taking}
-use Rattle.feed.specs.Helpers.{opened, outcome_at, Expected, none, announced, Stretch, Announced}
+use Rattle.feed.specs.Helpers.{opened, outcome_at, Stretch, Announced}
 use Rattle.feed.specs.Verdict.{room, FeedRefusal, Verdict, more, refused, settled, verdict}
 use Rattle.feed.proofs.TakingLaws.{on_from, Known, up_to_heading, up_to_announced, up_to_one}
 use Rattle.feed.proofs.VerdictLaws.{verdict_more, verdict_whole, announcing_laid}
@@ -148,20 +148,12 @@ fill_all k rest n w d used ok hw fits h b = go (eq-or-lt_of_le (omega arith))
 
 -- ---- past the heading
 
--- what was expected when bytes are missing
-pub record Awaited (k : List ℕ) (n w : ℕ) : Type 0 where
-  pub says : announcing (take n k) ≡ announces w
-  pub short : w ≤ room
-
-pub awaited : (k : List ℕ) (n w : ℕ) → Expected k n w → n < w → Awaited k n w
-awaited k n w none h = absurd (omega arith)
-awaited k n w (announced e s) h = record { says = e; short = s }
-
 -- nothing was used yet, and what is in settles nothing
-pub none_used : (k piece : List ℕ) (n w : ℕ) → length k ≡ room → n < room → Awaited k n w → n < w → outcome_at k n 0 piece ≡ taking (opened k n) piece
-none_used k piece n w hk h a m =
+pub none_used : (k piece : List ℕ) (n w : ℕ) → length k ≡ room → n < room → announcing (take n k) ≡ announces w → w ≤ room → n < w
+    → outcome_at k n 0 piece ≡ taking (opened k n) piece
+none_used k piece n w hk h says short m =
     let fits : n ≤ length k = omega arith in
-    let quiet = verdict_more (take n k) w a.says a.short (omega (arith, length-take-le n k fits)) in
+    let quiet = verdict_more (take n k) w says short (omega (arith, length-take-le n k fits)) in
     let o = taking (opened k n) piece in
     let all : 0 + o.used ≡ o.used = omega arith in
     outcome_by k n 0 piece more quiet ∙ (λ i. record { state = o.state; used = all i; finding = o.finding })

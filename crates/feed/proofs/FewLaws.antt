@@ -9,8 +9,8 @@ use borrow.Author.Tests.{lt-ltb, ltb-true, ltb-false}
 use lib.Dec.{ltb}
 use lib.ListN.{length, take, set, length-set}
 use Rattle.envelope.specs.Layout.{header_size}
-use Rattle.feed.specs.Feeding.{Stand, inside, whole, refused, State, begun_by, begun, FeedOutcome, closing, finding_by, stand_by, standing, still, further_by, taking, ending, end_by}
-use Rattle.feed.specs.Messages.{Roomy, found_size, Few, UsesFew, EndFindsNoMessage}
+use Rattle.feed.specs.Feeding.{Stand, inside, whole, refused, State, begun_by, begun, FeedOutcome, closing, finding_by, stand_by, standing, further_by, taking, ending, end_by}
+use Rattle.feed.specs.Messages.{Roomy, found_size, UsesFew, EndFindsNoMessage}
 use Rattle.feed.specs.Verdict.{room, Verdict, more, complete, refused, verdict}
 use Rattle.feed.proofs.LaidLaws.{in_length}
 use Rattle.feed.proofs.RefusedLaws.{Expects, expects}
@@ -34,9 +34,6 @@ still_size : (t : Stand) → found_size (standing t) ≡ 0
 still_size inside = refl
 still_size whole = refl
 still_size (refused f) = refl
-
-pub still_few : (s : State) (o : FeedOutcome) → o ≡ still s → Few o
-still_few s o e = rw e (record { used = omega arith; size = omega (arith, still_size s.stand) })
 
 -- a byte that gave this verdict, and what follows where it settles nothing
 few_by : (v : Verdict) (k : List ℕ) (n : ℕ) (later : FeedOutcome) → n < room → (v ≡ more → Fewer (suc n) later)

@@ -13,11 +13,10 @@ use Rattle.feed.specs.Feeding.{Stand, inside, whole, refused, State, begun, Find
 use Rattle.feed.specs.Messages.{All, none, also, AllFit, Roomy, FoundAreAccepted, FoundIsHeld}
 use Rattle.feed.specs.Stream.{found_by, found_in, Course, streaming}
 use Rattle.feed.specs.Told.{told_standing, told_feed, told_found, told_taken}
-use Rattle.feed.specs.Verdict.{room, FeedRefusal, Verdict, more, complete, refused, verdict}
+use Rattle.feed.specs.Verdict.{room, Verdict, more, complete, refused, verdict}
 use Rattle.feed.proofs.RunLaws.{Byte, repeats, goes_in, byte, streaming_nil, streaming_cons, as_defined}
 use Rattle.feed.proofs.StandLaws.{begun_room, refused_takes}
 use Rattle.feed.proofs.TakingLaws.{taking_nil, taking_cons}
-use Rattle.feed.proofs.UseLaws.{message_not_nothing}
 use Rattle.feed.proofs.WeighedLaws.{complete_accepts}
 
 -- ---- found: accepted, and of at most 510 bytes
@@ -67,13 +66,10 @@ record Kept (o : FeedOutcome) (n : ℕ) (f : Fields) : Type 0 where
   accepts : reading (take n o.state.kept) ≡ accepted f
   size : length (take n o.state.kept) ≡ n
 
-message_not_refusal : (f : FeedRefusal) (n : ℕ) (g : Fields) → refused f ≡ message n g → ⊥
-message_not_refusal f n g e = let z : ◌≡◌ {A = ℕ} 0 1 = cc in omega arith
-
 still_no_message : (t : Stand) (n : ℕ) (f : Fields) → standing t ≡ message n f → ⊥
-still_no_message inside n f e = message_not_nothing n f (sym e)
-still_no_message whole n f e = message_not_nothing n f (sym e)
-still_no_message (refused g) n f e = message_not_refusal g n f e
+still_no_message inside n f e = cc
+still_no_message whole n f e = cc
+still_no_message (refused g) n f e = cc
 
 kept_by : (v : Verdict) (k : List ℕ) (m n : ℕ) (f : Fields) (later : FeedOutcome) → verdict (take m k) ≡ v → m ≤ length k
     → (later.finding ≡ message n f → Kept later n f)
@@ -90,7 +86,7 @@ kept_by (complete g) k m n f later v b h e =
       accepts = rw (← sizes) (complete_accepts (take m k) f (v ∙ ap complete fields));
       size = rw (← sizes) (length-take-le m k b);
     }
-kept_by (refused g) k m n f later v b h e = absurd (message_not_refusal g n f e)
+kept_by (refused g) k m n f later v b h e = absurd (cc)
 
 message_kept : (piece : List ℕ) (s : State) (n : ℕ) (f : Fields) → Roomy s → (taking s piece).finding ≡ message n f → Kept (taking s piece) n f
 message_kept [] s n f r e = absurd (still_no_message s.stand n f (ap (λ (o : FeedOutcome). o.finding) (sym (taking_nil s)) ∙ e))
@@ -113,7 +109,7 @@ found_is_held f piece t n e m r p found h =
     let finding : (told_taken t).finding ≡ message n (told_envelope e) = ap told_found found in
     let k : Kept (told_taken t) n (told_envelope e) =
     subst (λ (o : FeedOutcome). Kept o n (told_envelope e)) (sym p) (message_kept piece (told_feed f) n (told_envelope e) r (ap (λ (o : FeedOutcome). o.finding) (sym p) ∙ finding)) in
-    let size : size_by (told_standing t.feed.standing) t.feed.count ≡ n = ap (λ (s : Stand). size_by s t.feed.count) k.stand ∙ k.count in
+    let size : size_by (told_standing t.feed.beside.standing) t.feed.beside.count ≡ n = ap (λ (s : Stand). size_by s t.feed.beside.count) k.stand ∙ k.count in
     let same : take n t.feed.kept ≡ m = sym (h ∙ ap (λ (j : ℕ). take j t.feed.kept) size) in (
       ap (λ (g : Finding). found_by g t.feed.kept) finding ∙ ap (λ (x : List ℕ). x ∷ []) same,
       ap reading (sym same) ∙ k.accepts,

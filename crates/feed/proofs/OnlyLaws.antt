@@ -3,6 +3,7 @@
 use mathlib.Core.List.{List, []}
 use mathlib.Core.Path.{◌≡◌, refl, ap, sym, ◌∙◌}
 use Prim.Native.Nat.{ℕ}
+use Rattle.std.specs.Prelude.{Option, Some, None, Result, Ok, Err}
 use Rattle.envelope.proofs.OnlyLaws.{only_by_telling, untold_refusal, untold_refusal_lem, only_told_numbers, untold_envelope, untold_envelope_lem}
 use Rattle.envelope.specs.Promise.{Only₁, Only₂}
 use Rattle.feed.specs.Feeding.{Stand, inside, whole, refused, State, fresh, Finding, nothing, message, FeedOutcome, taking, ending}
@@ -13,8 +14,8 @@ use Rattle.feed.specs.declared.refusal.Refusal.TheVariants.{MessageRefused, TooL
 use Rattle.feed.specs.declared.feeder.Ended.{Ended}
 use Rattle.feed.specs.declared.feeder.Feed.{Feed}
 use Rattle.feed.specs.declared.feeder.Taken.{Taken}
-use Rattle.feed.specs.declared.step.Found.{Found}
-use Rattle.feed.specs.declared.step.Found.TheVariants.{Nothing, Message, Refused as FoundRefused}
+use Rattle.feed.specs.declared.step.Beside.{Beside}
+use Rattle.feed.specs.declared.step.Message.{Message}
 use Rattle.feed.specs.declared.step.Standing.{Standing}
 use Rattle.feed.specs.declared.step.Standing.TheVariants.{Inside, Whole, Refused}
 use Rattle.feed.specs.declared.step.Step.{Step}
@@ -40,20 +41,20 @@ untold_standing_lem Whole = refl
 untold_standing_lem (Refused f) = ap Refused (untold_feed_refusal_lem f)
 
 abbrev pub untold_feed : State → Feed
-untold_feed s = record { kept = s.kept; count = s.count; standing = untold_standing s.stand }
+untold_feed s = record { kept = s.kept; beside = record { count = s.count; standing = untold_standing s.stand } }
 
 pub untold_feed_lem : (f : Feed) → untold_feed (told_feed f) ≡ f
-untold_feed_lem f = λ i. record { kept = f.kept; count = f.count; standing = untold_standing_lem f.standing i }
+untold_feed_lem f = λ i. record { kept = f.kept; beside = record { count = f.beside.count; standing = untold_standing_lem f.beside.standing i } }
 
-abbrev pub untold_found : Finding → Found
-untold_found nothing = Nothing
-untold_found (message n f) = Message n (untold_envelope f)
-untold_found (refused f) = FoundRefused (untold_feed_refusal f)
+abbrev pub untold_found : Finding → Result (Option Message) CodeRefusal
+untold_found nothing = Ok None
+untold_found (message n f) = Ok (Some (record { size = n; envelope = untold_envelope f }))
+untold_found (refused f) = Err (untold_feed_refusal f)
 
-pub untold_found_lem : (f : Found) → untold_found (told_found f) ≡ f
-untold_found_lem Nothing = refl
-untold_found_lem (Message n e) = ap (Message n) (untold_envelope_lem e)
-untold_found_lem (FoundRefused f) = ap FoundRefused (untold_feed_refusal_lem f)
+pub untold_found_lem : (f : Result (Option Message) CodeRefusal) → untold_found (told_found f) ≡ f
+untold_found_lem (Ok None) = refl
+untold_found_lem (Ok (Some m)) = λ i. Ok (Some (record { size = m.size; envelope = untold_envelope_lem m.envelope i }))
+untold_found_lem (Err f) = ap Err (untold_feed_refusal_lem f)
 
 abbrev untold_taken : FeedOutcome → Taken
 untold_taken o = record { feed = untold_feed o.state; used = o.used; found = untold_found o.finding }
@@ -79,25 +80,25 @@ only_takes f piece = only_by_telling told_taken untold_taken untold_taken_lem (t
 pub only_ends : (f : Feed) → Only₁ (Ends f)
 only_ends f = only_by_telling told_ended untold_ended untold_ended_lem (ending (told_feed f))
 
-pub only_holds : (kept : List ℕ) (count : ℕ) (standing : Standing) → Only₁ (Holds kept count standing)
-only_holds kept count standing a b p q = p ∙ sym q
+pub only_holds : (kept : List ℕ) (beside : Beside) → Only₁ (Holds kept beside)
+only_holds kept beside a b p q = p ∙ sym q
 
 pub only_numbers_feed_refusal : (f : CodeRefusal) → Only₁ (NumbersFeedRefusal f)
 only_numbers_feed_refusal f = only_told_numbers (feed_numbers (told_feed_refusal f))
 
 -- `advance`: the answer and the bytes lent
 abbrev untold_step : FeedOutcome → Step
-untold_step o = record { count = o.state.count; standing = untold_standing o.state.stand; used = o.used; found = untold_found o.finding }
+untold_step o = record { beside = record { count = o.state.count; standing = untold_standing o.state.stand }; used = o.used; found = untold_found o.finding }
 
 untold_step_lem : (r : Step) (kept : List ℕ) → untold_step (told_step r kept) ≡ r
-untold_step_lem r kept = λ i. record { count = r.count; standing = untold_standing_lem r.standing i; used = r.used; found = untold_found_lem r.found i }
+untold_step_lem r kept = λ i. record { beside = record { count = r.beside.count; standing = untold_standing_lem r.beside.standing i }; used = r.used; found = untold_found_lem r.found i }
 
-pub only_advances : (entry : List ℕ) (count : ℕ) (standing : Standing) (piece : List ℕ) → Only₂ (Advances entry count standing piece)
-only_advances entry count standing piece a b x y p q =
+pub only_advances : (entry : List ℕ) (beside : Beside) (piece : List ℕ) → Only₂ (Advances entry beside piece)
+only_advances entry beside piece a b x y p q =
     let e = p ∙ sym q in
     (sym (untold_step_lem a x) ∙ ap untold_step e ∙ untold_step_lem b y, ap (λ (o : FeedOutcome). o.state.kept) e)
 
 -- `close`: the bytes kept may be any, so none do
-pub only_closes : (count : ℕ) (standing : Standing) → Only₁ (Closes count standing)
-only_closes count standing a b p q =
+pub only_closes : (beside : Beside) → Only₁ (Closes beside)
+only_closes beside a b p q =
     sym (untold_step_lem a []) ∙ ap untold_step (p [] ∙ sym (q [])) ∙ untold_step_lem b []

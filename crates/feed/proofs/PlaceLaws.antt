@@ -15,18 +15,17 @@ use Rattle.envelope.specs.Fields.{Refusal, Answer, accepted, refused as refusedM
 use Rattle.envelope.specs.Places.{PlaceOf, place_for}
 use Rattle.envelope.specs.Reading.{reading}
 use Rattle.envelope.specs.Told.{told_refusal}
-use Rattle.feed.specs.Feeding.{Stand, inside, whole, refused, State, fresh, begun, Finding, nothing, message, FeedOutcome, closing, still, byte_in, further_by, taking, end_by, ending}
+use Rattle.feed.specs.Feeding.{Stand, inside, whole, refused, State, fresh, begun, Finding, nothing, message, FeedOutcome, closing, byte_in, further_by, taking, end_by, ending}
 use Rattle.feed.specs.Messages.{Roomy}
 use Rattle.feed.specs.Places.{PlaceWhereRefused, in_room, CountTellsPlace, TakeKeepsPlace, EndKeepsPlace, found_place, PointsShort, TakePointsShort, EndPointsShort}
 use Rattle.feed.specs.Stream.{Course, streaming}
 use Rattle.feed.specs.Told.{told_standing, told_feed}
 use Rattle.feed.specs.Verdict.{room, FeedRefusal, reads, too_long, cut, Verdict, more, complete, refused, settled, verdict}
-use Rattle.feed.proofs.RefusedLaws.{inside_not_refused, whole_not_refused, same_refused}
 use Rattle.feed.proofs.RunLaws.{Byte, repeats, goes_in, byte, streaming_nil, streaming_cons, as_defined}
 use Rattle.feed.proofs.StandLaws.{begun_room}
-use Rattle.feed.proofs.StopLaws.{still_stands, taking_stands, ending_stands}
+use Rattle.feed.proofs.StopLaws.{taking_stands, ending_stands}
 use Rattle.feed.proofs.VerdictLaws.{verdict_by}
-use Rattle.feed.proofs.WeighedLaws.{more_not_refused, refused_not_complete, same_refusal, Weighed, is_too_long, not_yet, all_in, weigh}
+use Rattle.feed.proofs.WeighedLaws.{Weighed, is_too_long, not_yet, all_in, weigh}
 
 -- ---- a verdict's place
 
@@ -34,27 +33,27 @@ pub same_reading : (a b : Refusal) → reads a ≡ reads b → a ≡ b
 same_reading a b e = cc
 
 pub too_long_not_read : (r : Refusal) → too_long ≡ reads r → ⊥
-too_long_not_read r e = let z : ◌≡◌ {A = ℕ} 0 1 = cc in omega arith
+too_long_not_read r e = cc
 
 pub cut_not_read : (r : Refusal) → cut ≡ reads r → ⊥
-cut_not_read r e = let z : ◌≡◌ {A = ℕ} 0 1 = cc in omega arith
+cut_not_read r e = cc
 
 settled_refused : (a : Answer) (r : Refusal) → settled a ≡ refused (reads r) → a ≡ refusedMessage r
-settled_refused (accepted f) r e = absurd (refused_not_complete (reads r) f (sym e))
-settled_refused (refusedMessage q) r e = ap refusedMessage (same_reading q r (same_refusal (reads q) (reads r) e))
+settled_refused (accepted f) r e = cc
+settled_refused (refusedMessage q) r e = cc
 
 verdict_placed : (m : List ℕ) (r : Refusal) → verdict m ≡ refused (reads r) → PlaceOf m r
 verdict_placed m r v = go (announcing m) refl
   where
     by : (w : ℕ) → Weighed m w → PlaceOf m r
-    by w (is_too_long l e) = absurd (too_long_not_read r (same_refusal too_long (reads r) (sym e ∙ v)))
-    by w (not_yet l k e) = absurd (more_not_refused (reads r) (sym e ∙ v))
+    by w (is_too_long l e) = absurd (cc)
+    by w (not_yet l k e) = absurd (cc)
     by w (all_in l k e) = places_by_table m r (settled_refused (reading m) r (sym e ∙ v))
 
     go : (a : AnnouncementAnswer) → announcing m ≡ a → PlaceOf m r
-    go unfinished e = absurd (more_not_refused (reads r) (sym (verdict_by m unfinished e) ∙ v))
+    go unfinished e = absurd (cc (verdict_by m unfinished e))
     go (refusedHeading q) e =
-        let same = same_reading q r (same_refusal (reads q) (reads r) (sym (verdict_by m (refusedHeading q) e) ∙ v)) in
+        let same : q ≡ r = cc (verdict_by m (refusedHeading q) e) in
         heading_placed m m r (e ∙ ap refusedHeading same)
     go (announces w) e = by w (weigh m w e)
 
@@ -70,9 +69,9 @@ module _ (P : Fact) (new : (k : List ℕ) (n : ℕ) (r : Refusal) → length k �
     told : (r : Refusal) → s.stand ≡ refused (reads r) → P s.kept s.count r
 
   stands_closing : (v : Verdict) (k : List ℕ) (n : ℕ) → verdict (take n k) ≡ v → length k ≡ room → n ≤ room → Stands (closing v k n 1).state
-  stands_closing more k n e l h = record { roomy = l; told = λ r q. absurd (inside_not_refused (reads r) q) }
-  stands_closing (complete f) k n e l h = record { roomy = l; told = λ r q. absurd (whole_not_refused (reads r) q) }
-  stands_closing (refused f) k n e l h = record { roomy = l; told = λ r q. new k n r l h (e ∙ ap refused (same_refused f (reads r) q)) }
+  stands_closing more k n e l h = record { roomy = l; told = λ r q. absurd (cc) }
+  stands_closing (complete f) k n e l h = record { roomy = l; told = λ r q. absurd (cc) }
+  stands_closing (refused f) k n e l h = record { roomy = l; told = λ r q. new k n r l h (cc) }
 
   stands_byte : (s : State) (x : ℕ) → Stands s → Stands (byte_in s x).state
   stands_byte s x w = go (byte s x)
@@ -102,7 +101,7 @@ module _ (P : Fact) (new : (k : List ℕ) (n : ℕ) (r : Refusal) → length k �
   fresh_stands : (s : State) → s ≡ fresh → Stands s
   fresh_stands s e =
       subst Stands (sym e)
-      (record { roomy = length-replicate {A = ℕ} room 0; told = λ r q. absurd (inside_not_refused (reads r) q) })
+      (record { roomy = length-replicate {A = ℕ} room 0; told = λ r q. absurd (cc) })
 
 -- ---- the table, of the bytes that are in
 
@@ -136,7 +135,7 @@ take_keeps_place f piece t roomy told takes =
 
 kept_by_end : (t : Stand) (n : ℕ) (s : State) → CountTellsPlace s → CountTellsPlace (end_by t n s).state
 kept_by_end inside zero s h = h
-kept_by_end inside (suc n) s h = λ r q. absurd (cut_not_read r (same_refused cut (reads r) q))
+kept_by_end inside (suc n) s h = λ r q. absurd (cc)
 kept_by_end whole n s h = h
 kept_by_end (refused f) n s h = h
 
@@ -169,10 +168,6 @@ told_short o stands told (refused cut) e = omega arith
 
 as_told : (s : State) (o p : FeedOutcome) → o ≡ p → PointsShort s p → PointsShort s o
 as_told s o p e h = subst (PointsShort s) (sym e) h
-
--- where nothing is used, what stands is told
-pub still_points_short : (s : State) (o : FeedOutcome) → o ≡ still s → PointsShort s o
-still_points_short s o e = as_told s o (still s) e (λ told. told_short (still s) (λ f. still_stands s f) told (still s).finding refl)
 
 pub take_points_short : TakePointsShort
 take_points_short s piece o roomy e =

@@ -24,7 +24,7 @@ use Rattle.feed.proofs.LaidLaws.{in_length}
 use Rattle.feed.proofs.RunLaws.{Byte, repeats, goes_in, byte, streaming_nil, streaming_cons, as_defined}
 use Rattle.feed.proofs.StandLaws.{begun_room}
 use Rattle.feed.proofs.VerdictLaws.{verdict_by, verdict_short, verdict_whole, announcing_grown}
-use Rattle.feed.proofs.WeighedLaws.{refused_not_complete, more_not_refused, same_refusal, settled_not_more, Weighed, is_too_long, not_yet, all_in, weigh}
+use Rattle.feed.proofs.WeighedLaws.{settled_not_more, Weighed, is_too_long, not_yet, all_in, weigh}
 
 -- ---- where a refusal is told
 
@@ -39,13 +39,13 @@ pub expects : (p : List ℕ) → verdict p ≡ more → header_size ≤ length p
 expects p v h = go (announcing p) refl
   where
     by : (w : ℕ) → announcing p ≡ announces w → Weighed p w → Expects p
-    by w a (is_too_long l e) = absurd (more_not_refused too_long (sym v ∙ e))
+    by w a (is_too_long l e) = absurd (cc)
     by w a (not_yet l k e) = record { whole = w; says = a; fits = l; missing = k }
     by w a (all_in l k e) = absurd (settled_not_more (reading p) (sym e ∙ v))
 
     go : (a : AnnouncementAnswer) → announcing p ≡ a → Expects p
     go unfinished e = absurd (omega (arith, announced.unfinished_short p e))
-    go (refusedHeading r) e = absurd (more_not_refused (reads r) (sym v ∙ verdict_by p (refusedHeading r) e))
+    go (refusedHeading r) e = absurd (cc (verdict_by p (refusedHeading r) e))
     go (announces w) e = by w e (weigh p w e)
 
 heading_number : (r : Refusal) → announced.HeadingRefusal r → HeadingNumber r.number
@@ -57,14 +57,15 @@ bad_heading : (m : List ℕ) (f : FeedRefusal) → verdict m ≡ refused f → l
 bad_heading m f v h = go (announcing m) refl
   where
     by : (w : ℕ) → announcing m ≡ announces w → Weighed m w → HeadingNumber (number_of f)
-    by w a (is_too_long l e) = is_51 (ap number_of (same_refusal f too_long (sym v ∙ e)))
-    by w a (not_yet l k e) = absurd (more_not_refused f (sym e ∙ v))
+    by w a (is_too_long l e) = let same : f ≡ too_long = cc in is_51 (ap number_of same)
+    by w a (not_yet l k e) = absurd (cc)
     by w a (all_in l k e) = absurd (omega (arith, announced.announces_least m w a))
 
     go : (a : AnnouncementAnswer) → announcing m ≡ a → HeadingNumber (number_of f)
-    go unfinished e = absurd (more_not_refused f (sym (verdict_by m unfinished e) ∙ v))
+    go unfinished e = absurd (cc (verdict_by m unfinished e))
     go (refusedHeading r) e =
-        rw (same_refusal f (reads r) (sym v ∙ verdict_by m (refusedHeading r) e)) (heading_number r (announced.refused_heading m r e))
+        let same : f ≡ reads r = cc (verdict_by m (refusedHeading r) e) in
+        rw same (heading_number r (announced.refused_heading m r e))
     go (announces w) e = by w e (weigh m w e)
 
 bad_whole : (m : List ℕ) (f : FeedRefusal) → verdict m ≡ refused f → length m ≤ room → announcing m ≡ announces (length m) → WholeNumber (number_of f)
@@ -73,10 +74,13 @@ bad_whole m f v h a = go (announced.announced_completed m a)
     at : verdict m ≡ settled (reading m)
     at = verdict_whole m (length m) a h (omega arith)
 
+    again : {g : FeedRefusal} → ◌≡◌ {A = Verdict} (refused f) (refused g) → f ≡ g
+    again e = cc
+
     go : Completed m → WholeNumber (number_of f)
-    go (accepts_it g e) = absurd (refused_not_complete f g (sym v ∙ at ∙ ap settled e))
-    go (refuses_6 e) = is_6 (ap number_of (same_refusal f _ (sym v ∙ at ∙ ap settled e)))
-    go (refuses_7 e) = is_7 (ap number_of (same_refusal f _ (sym v ∙ at ∙ ap settled e)))
+    go (accepts_it g e) = absurd (cc (at, ap settled e))
+    go (refuses_6 e) = is_6 (ap number_of (again (sym v ∙ at ∙ ap settled e)))
+    go (refuses_7 e) = is_7 (ap number_of (again (sym v ∙ at ∙ ap settled e)))
 
 -- the byte that brought a refusal, where nothing was settled before it
 settles_at : (k : List ℕ) (n x : ℕ) (f : FeedRefusal) → length k ≡ room → n < room → (0 < n → verdict (take n k) ≡ more)
@@ -89,7 +93,7 @@ settles_at k n x f hk h quiet v = go (ltb n header_size) refl (ltb (suc n) heade
     by : (e : Expects (take n k)) → length (take n k) ≡ n → announcing (take (suc n) (set k n x)) ≡ announces e.whole
         → Weighed (take (suc n) (set k n x)) e.whole → Settles (take (suc n) (set k n x)) (number_of f)
     by e front a (is_too_long l q) = absurd (omega (arith, e.fits))
-    by e front a (not_yet l j q) = absurd (more_not_refused f (sym q ∙ v))
+    by e front a (not_yet l j q) = absurd (cc)
     by e front a (all_in l j q) =
         let end : e.whole ≡ length (take (suc n) (set k n x)) = omega (arith, size, e.missing) in
         let a' = a ∙ ap announces end in
@@ -103,7 +107,7 @@ settles_at k n x f hk h quiet v = go (ltb n header_size) refl (ltb (suc n) heade
         by e front a (weigh (take (suc n) (set k n x)) e.whole a)
 
     go : (b : Bool) → ltb n header_size ≡ b → (d : Bool) → ltb (suc n) header_size ≡ d → Settles (take (suc n) (set k n x)) (number_of f)
-    go b eb true ed = absurd (more_not_refused f (sym (verdict_short (take (suc n) (set k n x)) (omega (arith, size, ltb-true (suc n) header_size ed))) ∙ v))
+    go b eb true ed = absurd (cc (verdict_short (take (suc n) (set k n x)) (omega (arith, size, ltb-true (suc n) header_size ed))))
     go true eb false ed =
         let end : length (take (suc n) (set k n x)) ≡ header_size = omega (arith, size, ltb-true n header_size eb, ltb-false (suc n) header_size ed) in
         at_17 end (bad_heading (take (suc n) (set k n x)) f v end)
@@ -116,23 +120,23 @@ record Sound (s : State) : Type 0 where
   told : (f : FeedRefusal) → s.stand ≡ refused f → Settles (take s.count s.kept) (number_of f)
 
 pub inside_not_refused : (f : FeedRefusal) → inside ≡ refused f → ⊥
-inside_not_refused f e = let z : ◌≡◌ {A = ℕ} 0 1 = cc in omega arith
+inside_not_refused f e = cc
 
 pub whole_not_refused : (f : FeedRefusal) → whole ≡ refused f → ⊥
-whole_not_refused f e = let z : ◌≡◌ {A = ℕ} 0 1 = cc in omega arith
+whole_not_refused f e = cc
 
 pub same_refused : (f g : FeedRefusal) → ◌≡◌ {A = Stand} (refused f) (refused g) → f ≡ g
 same_refused f g e = cc
 
 sound_after : (v : Verdict) (k : List ℕ) (n : ℕ) → verdict (take n k) ≡ v → length k ≡ room
     → ((f : FeedRefusal) → v ≡ refused f → Settles (take n k) (number_of f)) → Sound (closing v k n 1).state
-sound_after more k n e r s = record { roomy = r; quiet = go (ltb n room) refl; told = λ f q. absurd (inside_not_refused f q) }
+sound_after more k n e r s = record { roomy = r; quiet = go (ltb n room) refl; told = λ f q. absurd (cc) }
   where
     go : (b : Bool) → ltb n room ≡ b → 0 < cond (ltb n room) n 0 → verdict (take (cond (ltb n room) n 0) k) ≡ more
     go true q = rw q (λ h. e)
     go false q = rw q (λ h. absurd (omega arith))
-sound_after (complete f) k n e r s = record { roomy = r; quiet = λ h. absurd (omega arith); told = λ g q. absurd (whole_not_refused g q) }
-sound_after (refused f) k n e r s = record { roomy = r; quiet = λ h. absurd (omega arith); told = λ g q. rw (← same_refused f g q) (s f refl) }
+sound_after (complete f) k n e r s = record { roomy = r; quiet = λ h. absurd (omega arith); told = λ g q. absurd (cc) }
+sound_after (refused f) k n e r s = record { roomy = r; quiet = λ h. absurd (omega arith); told = λ g q. let same : f ≡ g = cc in rw (← same) (s f refl) }
 
 sound_byte : (s : State) (x : ℕ) → Sound s → Sound (byte_in s x).state
 sound_byte s x w = go (byte s x)
@@ -151,7 +155,7 @@ sound_stream (x ∷ l) s w = rw (streaming_cons s x l _ refl) (sound_stream l (b
 fresh_sound : (s : State) → s ≡ fresh → Sound s
 fresh_sound s e =
     subst Sound (sym e)
-    (record { roomy = length-replicate {A = ℕ} room 0; quiet = λ h. absurd (omega arith); told = λ f q. absurd (inside_not_refused f q) })
+    (record { roomy = length-replicate {A = ℕ} room 0; quiet = λ h. absurd (omega arith); told = λ f q. absurd (cc) })
 
 pub where_refused : WhereRefused
 where_refused f bytes c fault n calls e =

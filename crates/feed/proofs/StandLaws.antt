@@ -75,8 +75,8 @@ pub shut_takes : (s : State) (piece : List ℕ) → goes_on s.stand ≡ false �
 shut_takes s piece e = go s.stand refl e
   where
     go : (t : Stand) → s.stand ≡ t → goes_on t ≡ false → still s ≡ taking s piece
-    go inside q b = absurd (let z : ◌≡◌ {A = ℕ} 0 1 = cc in omega arith)
-    go whole q b = absurd (let z : ◌≡◌ {A = ℕ} 0 1 = cc in omega arith)
+    go inside q b = absurd (cc)
+    go whole q b = absurd (cc)
     go (refused f) q b = refused_takes s f piece q
 
 pub open_takes : (s : State) (piece : List ℕ) → goes_on s.stand ≡ true → 0 < length piece → taking (opened s.kept (begun s)) piece ≡ taking s piece
@@ -85,7 +85,7 @@ open_takes s piece e h = go s.stand refl e
     go : (t : Stand) → s.stand ≡ t → goes_on t ≡ true → taking (opened s.kept (begun_by s.stand s.count)) piece ≡ taking s piece
     go inside q b = ap (λ (t : Stand). taking (opened s.kept (begun_by t s.count)) piece) q ∙ same_begun s inside piece q going_on h
     go whole q b = ap (λ (t : Stand). taking (opened s.kept (begun_by t s.count)) piece) q ∙ same_begun s whole piece q anew h
-    go (refused f) q b = absurd (let z : ◌≡◌ {A = ℕ} 0 1 = cc in omega arith)
+    go (refused f) q b = absurd (cc)
 
 -- ---- the end
 

@@ -4,19 +4,17 @@ use mathlib.Core.List.{List, [], ◌∷◌}
 use mathlib.Core.Path.{◌≡◌, refl, ap, sym, ◌∙◌, subst}
 use Prim.Native.Nat.{ℕ, zero, suc}
 use native.Mathlib.Omega.{arith}
+use Rattle.std.specs.Prelude.{None, Ok, Err}
 use Rattle.feed.specs.Feeding.{Stand, inside, whole, refused, State, begun_by, begun, Finding, nothing, FeedOutcome, closing, finding_by, standing, still, further_by, taking, ending, end_by}
 use Rattle.feed.specs.Stopping.{RefusalIsKept, RefusalIsTold, EndIsKept, RefusalStands, RestartIsNew, EmptyPiece, EndBetween, EndInside}
 use Rattle.feed.specs.Told.{told_feed_refusal, told_standing, told_feed, told_found, told_taken, told_ended}
 use Rattle.feed.specs.Verdict.{FeedRefusal, Verdict, more, complete, refused}
 use Rattle.feed.specs.declared.refusal.Refusal.TheVariants.{Cut}
-use Rattle.feed.specs.declared.step.Found.TheVariants.{Nothing, Refused as FoundRefused}
 use Rattle.feed.specs.declared.step.Standing.TheVariants.{Refused}
 use Rattle.feed.proofs.OnlyLaws.{untold_standing_lem, untold_standing, untold_found, untold_found_lem, untold_feed_refusal_lem, same_feed, only_fresh, only_takes, only_ends}
-use Rattle.feed.proofs.RefusedLaws.{whole_not_refused}
 use Rattle.feed.proofs.RunLaws.{Byte, repeats, goes_in, byte}
 use Rattle.feed.proofs.StandLaws.{still_as, refused_takes, end_none, end_some}
 use Rattle.feed.proofs.TakingLaws.{taking_nil, taking_cons}
-use Rattle.feed.proofs.UseLaws.{refusal_not_nothing}
 
 -- ---- a refusal that is told stands
 
@@ -27,12 +25,9 @@ pub still_stands : (s : State) (f : FeedRefusal) → Stands (still s) f
 still_stands s f = go s.stand refl
   where
     go : (t : Stand) → s.stand ≡ t → standing s.stand ≡ refused f → s.stand ≡ refused f
-    go inside e r = absurd (refusal_not_nothing f (sym r ∙ ap standing e))
-    go whole e r = absurd (refusal_not_nothing f (sym r ∙ ap standing e))
-    go (refused g) e r = let same : ◌≡◌ {A = Finding} (refused g) (refused f) = ap standing (sym e) ∙ r in e ∙ again g same
-      where
-        again : (g : FeedRefusal) → ◌≡◌ {A = Finding} (refused g) (refused f) → ◌≡◌ {A = Stand} (refused g) (refused f)
-        again g q = cc
+    go inside e r = cc (ap standing e)
+    go whole e r = cc (ap standing e)
+    go (refused g) e r = cc (ap standing e)
 
 closing_stands : (v : Verdict) (k : List ℕ) (n : ℕ) (f : FeedRefusal) (later : FeedOutcome) → Stands later f
     → Stands (further_by (finding_by v n) (closing v k n 1) later) f
@@ -62,13 +57,13 @@ pub refusal_is_kept : RefusalIsKept
 refusal_is_kept f fault piece t p e =
     let stands : Stands (told_taken t) (told_feed_refusal fault) =
     subst (λ (o : FeedOutcome). Stands o (told_feed_refusal fault)) (sym p) (taking_stands piece (told_feed f) (told_feed_refusal fault)) in
-    sym (untold_standing_lem t.feed.standing) ∙ ap untold_standing (stands (ap told_found e)) ∙ ap Refused (untold_feed_refusal_lem fault)
+    sym (untold_standing_lem t.feed.beside.standing) ∙ ap untold_standing (stands (ap told_found e)) ∙ ap Refused (untold_feed_refusal_lem fault)
 
 pub end_is_kept : EndIsKept
 end_is_kept f fault t p e =
     let stands : Stands (told_ended t) (told_feed_refusal fault) =
     subst (λ (o : FeedOutcome). Stands o (told_feed_refusal fault)) (sym p) (ending_stands (told_feed f) (told_feed_refusal fault)) in
-    sym (untold_standing_lem t.feed.standing) ∙ ap untold_standing (stands (ap told_found e)) ∙ ap Refused (untold_feed_refusal_lem fault)
+    sym (untold_standing_lem t.feed.beside.standing) ∙ ap untold_standing (stands (ap told_found e)) ∙ ap Refused (untold_feed_refusal_lem fault)
 
 -- ---- and one that stands was told
 
@@ -78,7 +73,7 @@ Tells o f = o.state.stand ≡ refused f → o.finding ≡ refused f
 closing_tells : (v : Verdict) (k : List ℕ) (n : ℕ) (f : FeedRefusal) (later : FeedOutcome) → Tells later f
     → Tells (further_by (finding_by v n) (closing v k n 1) later) f
 closing_tells more k n f later h = h
-closing_tells (complete g) k n f later h = λ e. absurd (whole_not_refused f e)
+closing_tells (complete g) k n f later h = λ e. cc
 closing_tells (refused g) k n f later h = λ e. ap standing e
 
 taking_tells : (piece : List ℕ) (s : State) (f : FeedRefusal) → Tells (taking s piece) f
@@ -93,16 +88,16 @@ pub refusal_is_told : RefusalIsTold
 refusal_is_told f fault piece t p e =
     let tells : Tells (told_taken t) (told_feed_refusal fault) =
     subst (λ (o : FeedOutcome). Tells o (told_feed_refusal fault)) (sym p) (taking_tells piece (told_feed f) (told_feed_refusal fault)) in
-    sym (untold_found_lem t.found) ∙ ap untold_found (tells (ap told_standing e)) ∙ ap FoundRefused (untold_feed_refusal_lem fault)
+    sym (untold_found_lem t.found) ∙ ap untold_found (tells (ap told_standing e)) ∙ ap Err (untold_feed_refusal_lem fault)
 
 -- ---- while it stands
 
 pub refusal_stands : RefusalStands
 refusal_stands f fault piece t e r p q =
-    let stands : told_standing f.standing ≡ refused (told_feed_refusal fault) = ap told_standing r in
+    let stands : told_standing f.beside.standing ≡ refused (told_feed_refusal fault) = ap told_standing r in
     let repeated = still_as (told_feed f) (refused (told_feed_refusal fault)) stands in (
-      only_takes f piece t (record { feed = f; used = 0; found = FoundRefused fault }) p (sym repeated ∙ refused_takes (told_feed f) (told_feed_refusal fault) piece stands),
-      only_ends f e (record { feed = f; found = FoundRefused fault }) q (sym repeated ∙ sym (end_none (told_feed f) (ap (λ (t : Stand). begun_by t f.count) stands))),
+      only_takes f piece t (record { feed = f; used = 0; found = Err fault }) p (sym repeated ∙ refused_takes (told_feed f) (told_feed_refusal fault) piece stands),
+      only_ends f e (record { feed = f; found = Err fault }) q (sym repeated ∙ sym (end_none (told_feed f) (ap (λ (t : Stand). begun_by t f.beside.count) stands))),
     )
 
 pub restart_is_new : RestartIsNew
@@ -119,9 +114,9 @@ end_nothing : (s : State) → standing s.stand ≡ nothing → begun s ≡ 0 →
 end_nothing s g z = end_none s z ∙ ap (λ (f : Finding). record { state = s; used = 0; finding = f }) g
 
 pub ends_between : EndBetween
-ends_between f e p w = only_ends f e (record { feed = f; found = Nothing }) p (sym (end_nothing (told_feed f) w.going w.none))
+ends_between f e p w = only_ends f e (record { feed = f; found = Ok None }) p (sym (end_nothing (told_feed f) w.going w.none))
 
 pub ends_inside : EndInside
 ends_inside f e p h =
-    only_ends f e (record { feed = record { kept = f.kept; count = f.count; standing = Refused Cut }; found = FoundRefused Cut }) p
+    only_ends f e (record { feed = record { kept = f.kept; beside = record { count = f.beside.count; standing = Refused Cut } }; found = Err Cut }) p
     (sym (end_some (told_feed f) (λ z. absurd (omega arith))))

@@ -5,9 +5,8 @@ use mathlib.Core.Path.{◌≡◌, refl, ap, sym, ◌∙◌, subst}
 use Prim.Native.Nat.{ℕ, zero, suc, ◌≤◌, ◌<◌, ◌-◌}
 use native.Mathlib.Omega.{arith}
 use lib.ListN.{length, drop, length-drop}
-use Rattle.envelope.specs.Fields.{Fields}
 use Rattle.feed.specs.Cutting.{over, stopped, call, no_calls, call_then, Uses, UsesBytes, SettledBy, LastUsedSettles, Answered, Run, RunsEnd}
-use Rattle.feed.specs.Feeding.{Stand, refused, State, nothing, message, FeedOutcome, closing, finding_by, standing, still, byte_in, further_by, taking}
+use Rattle.feed.specs.Feeding.{Stand, refused, State, nothing, FeedOutcome, closing, finding_by, standing, still, byte_in, further_by, taking}
 use Rattle.feed.specs.Stream.{Course, streaming}
 use Rattle.feed.specs.Told.{told_standing, told_feed}
 use Rattle.feed.specs.Verdict.{FeedRefusal, Verdict, more, complete, refused}
@@ -19,11 +18,8 @@ use Rattle.feed.proofs.TakingLaws.{taking_nil, taking_cons}
 
 -- ---- findings differ
 
-pub message_not_nothing : (n : ℕ) (f : Fields) → message n f ≡ nothing → ⊥
-message_not_nothing n f e = let z : ◌≡◌ {A = ℕ} 0 1 = cc in omega arith
-
 pub refusal_not_nothing : (f : FeedRefusal) → refused f ≡ nothing → ⊥
-refusal_not_nothing f e = let z : ◌≡◌ {A = ℕ} 0 1 = cc in omega arith
+refusal_not_nothing f e = cc
 
 pub refused_not_going : (t : Stand) (f : FeedRefusal) → t ≡ refused f → standing t ≡ nothing → ⊥
 refused_not_going t f e o = refusal_not_nothing f (ap standing (sym e) ∙ o)
@@ -34,8 +30,8 @@ uses_by : (v : Verdict) (s : State) (x : ℕ) (l k : List ℕ) (n : ℕ) → Use
     → Uses s (x ∷ l) (further_by (finding_by v n) (closing v k n 1) (taking (closing v k n 1).state l))
 uses_by more s x l k n u =
     record { within = omega (arith, u.within); some = λ g h. omega arith; all = λ e. let q = u.all e in omega arith }
-uses_by (complete f) s x l k n u = record { within = omega arith; some = λ g h. omega arith; all = λ e. absurd (message_not_nothing n f e) }
-uses_by (refused f) s x l k n u = record { within = omega arith; some = λ g h. omega arith; all = λ e. absurd (refusal_not_nothing f e) }
+uses_by (complete f) s x l k n u = record { within = omega arith; some = λ g h. omega arith; all = λ e. absurd (cc) }
+uses_by (refused f) s x l k n u = record { within = omega arith; some = λ g h. omega arith; all = λ e. absurd (cc) }
 
 repeats_finding : (s : State) (x : ℕ) (l : List ℕ) (f : FeedRefusal) → s.stand ≡ refused f → byte_in s x ≡ still s
     → taking s (x ∷ l) ≡ record { state = s; used = 0; finding = refused f }
@@ -49,7 +45,7 @@ uses (x ∷ l) s = go (λ t. uses l t) (byte s x)
     go : ((t : State) → Uses t l (taking t l)) → Byte s x → Uses s (x ∷ l) (taking s (x ∷ l))
     go later (repeats f e b) =
         rw (repeats_finding s x l f e b)
-        (record { within = omega arith; some = λ g h. absurd (refused_not_going s.stand f e g); all = λ z. absurd (refusal_not_nothing f z) })
+        (record { within = omega arith; some = λ g h. absurd (refused_not_going s.stand f e g); all = λ z. absurd (cc) })
     go later (goes_in v q b o) = rw (taking_cons s x l _ b) (uses_by v s x l _ _ (later _))
 
 pub uses_bytes : UsesBytes
@@ -130,7 +126,7 @@ run_none f (x ∷ l) h = absurd (omega arith)
 -- one call more: it uses a byte at least
 run_more : Answers → (most : ℕ) → RunsBelow most → RunsBelow (suc most)
 run_more answer most later f [] h = record { came = no_calls f; calls = over }
-run_more answer most later f (x ∷ l) h = go f.standing refl
+run_more answer most later f (x ∷ l) h = go f.beside.standing refl
   where
     one : standing (told_feed f).stand ≡ nothing → Run f (x ∷ l)
     one g =
@@ -144,7 +140,7 @@ run_more answer most later f (x ∷ l) h = go f.standing refl
           calls = call (x ∷ l) [] a.taken (sym (append-nil (x ∷ l))) a.promised r.calls;
         }
 
-    go : (s : Standing) → f.standing ≡ s → Run f (x ∷ l)
+    go : (s : Standing) → f.beside.standing ≡ s → Run f (x ∷ l)
     go Inside e = one (ap (λ (s : Standing). standing (told_standing s)) e)
     go Whole e = one (ap (λ (s : Standing). standing (told_standing s)) e)
     go (Refused fault) e = record { came = no_calls f; calls = stopped fault e }

@@ -2,39 +2,20 @@
 -- A complete verdict is on a message that reading accepts, with the fields that it carries.
 use mathlib.Core.Bool.{Bool, true, false}
 use mathlib.Core.List.{List}
-use mathlib.Core.Path.{◌≡◌, refl, sym, ◌∙◌}
+use mathlib.Core.Path.{◌≡◌, refl}
 use Prim.Native.Nat.{ℕ, ◌≤◌, ◌<◌}
-use native.Mathlib.Omega.{arith}
 use borrow.Author.Tests.{ltb-true, ltb-false}
 use lib.Dec.{ltb}
 use lib.ListN.{length}
 use Rattle.envelope.specs.Announcing.{AnnouncementAnswer, unfinished, refused as refusedHeading, announces, announcing}
 use Rattle.envelope.specs.Fields.{Fields, Answer, accepted, refused as refusedMessage}
 use Rattle.envelope.specs.Reading.{reading}
-use Rattle.feed.specs.Verdict.{room, FeedRefusal, reads, too_long, more, complete, refused, settled, verdict}
+use Rattle.feed.specs.Verdict.{room, too_long, more, complete, refused, settled, verdict}
 use Rattle.feed.proofs.VerdictLaws.{verdict_by, verdict_too_long, verdict_more, verdict_whole}
 
--- ---- verdicts differ
-
-pub more_not_complete : (f : Fields) → more ≡ complete f → ⊥
-more_not_complete f e = let z : ◌≡◌ {A = ℕ} 0 1 = cc in omega arith
-
-pub refused_not_complete : (f : FeedRefusal) (g : Fields) → refused f ≡ complete g → ⊥
-refused_not_complete f g e = let z : ◌≡◌ {A = ℕ} 0 1 = cc in omega arith
-
-pub more_not_refused : (f : FeedRefusal) → more ≡ refused f → ⊥
-more_not_refused f e = let z : ◌≡◌ {A = ℕ} 0 1 = cc in omega arith
-
-pub same_refusal : (f g : FeedRefusal) → refused f ≡ refused g → f ≡ g
-same_refusal f g e = cc
-
-settled_complete : (a : Answer) (f : Fields) → settled a ≡ complete f → a ≡ accepted f
-settled_complete (accepted g) f e = cc
-settled_complete (refusedMessage r) f e = absurd (refused_not_complete (reads r) f e)
-
 pub settled_not_more : (a : Answer) → settled a ≡ more → ⊥
-settled_not_more (accepted f) e = more_not_complete f (sym e)
-settled_not_more (refusedMessage r) e = more_not_refused (reads r) (sym e)
+settled_not_more (accepted f) e = cc
+settled_not_more (refusedMessage r) e = cc
 
 -- ---- a verdict on an announced length, in its three cases
 
@@ -61,12 +42,16 @@ weigh m w e = go (ltb room w) refl (ltb (length m) w) refl
 pub complete_accepts : (m : List ℕ) (f : Fields) → verdict m ≡ complete f → reading m ≡ accepted f
 complete_accepts m f v = go (announcing m) refl
   where
+    by_answer : (a : Answer) → verdict m ≡ settled a → a ≡ accepted f
+    by_answer (accepted g) e = cc
+    by_answer (refusedMessage r) e = cc
+
     by : (w : ℕ) → Weighed m w → reading m ≡ accepted f
-    by w (is_too_long l e) = absurd (refused_not_complete too_long f (sym e ∙ v))
-    by w (not_yet l k e) = absurd (more_not_complete f (sym e ∙ v))
-    by w (all_in l k e) = settled_complete (reading m) f (sym e ∙ v)
+    by w (is_too_long l e) = cc
+    by w (not_yet l k e) = cc
+    by w (all_in l k e) = by_answer (reading m) e
 
     go : (a : AnnouncementAnswer) → announcing m ≡ a → reading m ≡ accepted f
-    go unfinished e = absurd (more_not_complete f (sym (verdict_by m unfinished e) ∙ v))
-    go (refusedHeading r) e = absurd (refused_not_complete (reads r) f (sym (verdict_by m (refusedHeading r) e) ∙ v))
+    go unfinished e = cc (verdict_by m unfinished e)
+    go (refusedHeading r) e = cc (verdict_by m (refusedHeading r) e)
     go (announces w) e = by w (weigh m w e)

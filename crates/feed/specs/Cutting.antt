@@ -30,7 +30,7 @@ call_then t c = record { found = found_in (told_taken t) ++ c.found; used = t.us
 -- first in what follows. The run is over when no byte is left, or a refusal stands.
 pub data Calls : Feed → List ℕ → Came → Type 0 where
   over : {f : Feed} → Calls f [] (no_calls f)
-  stopped : {f : Feed} {bytes : List ℕ} (refusal : CodeRefusal) → f.standing ≡ Refused refusal → Calls f bytes (no_calls f)
+  stopped : {f : Feed} {bytes : List ℕ} (refusal : CodeRefusal) → f.beside.standing ≡ Refused refusal → Calls f bytes (no_calls f)
   call : {f : Feed} {bytes : List ℕ} {c : Came} (piece rest : List ℕ) (t : Taken)
       → bytes ≡ piece ++ rest → Takes f piece t → Calls t.feed (drop t.used piece ++ rest) c
       → Calls f bytes (call_then t c)
@@ -54,12 +54,12 @@ AsDefined = (f : Feed) (bytes : List ℕ) (c : Came) → Calls f bytes c → tol
 
 -- a feed that is lent in parts: its calls are those of the feed, so that what holds of runs of the one holds of runs of the other
 abbrev pub AdvanceIsTake : Type 0
-AdvanceIsTake = (f : Feed) (piece exit : List ℕ) (r : Step) → Advances f.kept f.count f.standing piece r exit
-    → Takes f piece (record { feed = record { kept = exit; count = r.count; standing = r.standing }; used = r.used; found = r.found })
+AdvanceIsTake = (f : Feed) (piece exit : List ℕ) (r : Step) → Advances f.kept f.beside piece r exit
+    → Takes f piece (record { feed = record { kept = exit; beside = r.beside }; used = r.used; found = r.found })
 
 abbrev pub CloseIsEnd : Type 0
-CloseIsEnd = (f : Feed) (r : Step) → Closes f.count f.standing r
-    → Ends f (record { feed = record { kept = f.kept; count = r.count; standing = r.standing }; found = r.found })
+CloseIsEnd = (f : Feed) (r : Step) → Closes f.beside r
+    → Ends f (record { feed = record { kept = f.kept; beside = r.beside }; found = r.found })
 
 -- ---- a call by itself: what it used
 

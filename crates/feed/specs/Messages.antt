@@ -1,6 +1,6 @@
 -- What a run finds is what reading accepts, all of it is found, and each thing is told at the byte that settles it and not before. RULES 7.
 -- Proofs in proofs/SettlingLaws, proofs/FoundLaws and proofs/RefusedLaws.
-use Rattle.std.specs.Prelude.{ℕ, ◌≤◌, ◌<◌, List, [], ◌∷◌, ◌++◌, ◌≡◌, length, take}
+use Rattle.std.specs.Prelude.{ℕ, ◌≤◌, ◌<◌, List, [], ◌∷◌, ◌++◌, Some, Ok, Err, ◌≡◌, length, take}
 use Rattle.std.proofs.lemmas.List.Edits.{sets}
 use Rattle.envelope.specs.Announcing.{announces, announcing}
 use Rattle.envelope.specs.Fields.{Fields, accepted}
@@ -16,7 +16,6 @@ use Rattle.feed.specs.Verdict.{room, FeedRefusal, number_of, refused, verdict}
 use Rattle.feed.specs.declared.refusal.Refusal.{Refusal as CodeRefusal}
 use Rattle.feed.specs.declared.feeder.Feed.{Feed}
 use Rattle.feed.specs.declared.feeder.Taken.{Taken}
-use Rattle.feed.specs.declared.step.Found.TheVariants.{Message, Refused as FoundRefused}
 use Rattle.feed.specs.declared.step.Standing.TheVariants.{Whole, Refused}
 
 -- reading accepts it, and a feed has room for it
@@ -63,12 +62,12 @@ AllAreFound = (f : Feed) (ms : List (List ℕ)) (c : Came) → Between (told_fee
 -- a call that is lent a message, and whatever behind it: the message is found with its envelope, and nothing behind it is used
 abbrev pub FoundInOnePiece : Type 0
 FoundInOnePiece = (f : Feed) (m rest : List ℕ) (e : Envelope) → Between (told_feed f) → length m ≤ room → reading m ≡ accepted (told_envelope e)
-    → Takes f (m ++ rest) (record { feed = record { kept = sets f.kept 0 m; count = length m; standing = Whole }; used = length m; found = Message (length m) e })
+    → Takes f (m ++ rest) (record { feed = record { kept = sets f.kept 0 m; beside = record { count = length m; standing = Whole } }; used = length m; found = Ok (Some (record { size = length m; envelope = e })) })
 
 -- a message is handed out with what reading hands out of its bytes, and these are the ones that `held` then gives
 abbrev pub FoundIsHeld : Type 0
 FoundIsHeld = (f : Feed) (piece : List ℕ) (t : Taken) (n : ℕ) (e : Envelope) (m : List ℕ)
-    → Roomy (told_feed f) → Takes f piece t → t.found ≡ Message n e → Holds t.feed.kept t.feed.count t.feed.standing m
+    → Roomy (told_feed f) → Takes f piece t → t.found ≡ Ok (Some (record { size = n; envelope = e })) → Holds t.feed.kept t.feed.beside m
     → (found_in (told_taken t) ≡ m ∷ []) × (reading m ≡ accepted (told_envelope e)) × (length m ≡ n)
 
 -- ---- no call uses more bytes than the longest message has, or finds a longer one
@@ -118,7 +117,7 @@ RefusedWith Settling =
 abbrev pub RefusedInOnePiece : (List ℕ → Type 0) → Type 0
 RefusedInOnePiece Settling =
     (f : Feed) (m rest : List ℕ) (refusal : CodeRefusal) → Between (told_feed f) → Settling m → verdict m ≡ refused (told_feed_refusal refusal)
-    → Takes f (m ++ rest) (record { feed = record { kept = sets f.kept 0 m; count = length m; standing = Refused refusal }; used = length m; found = FoundRefused refusal })
+    → Takes f (m ++ rest) (record { feed = record { kept = sets f.kept 0 m; beside = record { count = length m; standing = Refused refusal } }; used = length m; found = Err refusal })
 
 -- a refused heading, with the 17th byte
 abbrev pub OfThe17th : List ℕ → Type 0
@@ -153,5 +152,5 @@ pub data Settles (m : List ℕ) (n : ℕ) : Type 0 where
 
 -- whatever run from a new feed: the bytes that are in of the refused message
 abbrev pub WhereRefused : Type 0
-WhereRefused = (f : Feed) (bytes : List ℕ) (c : Came) (refusal : CodeRefusal) → Fresh f → Calls f bytes c → c.feed.standing ≡ Refused refusal
-    → Settles (take c.feed.count c.feed.kept) (number_of (told_feed_refusal refusal))
+WhereRefused = (f : Feed) (bytes : List ℕ) (c : Came) (refusal : CodeRefusal) → Fresh f → Calls f bytes c → c.feed.beside.standing ≡ Refused refusal
+    → Settles (take c.feed.beside.count c.feed.kept) (number_of (told_feed_refusal refusal))

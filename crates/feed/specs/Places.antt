@@ -20,8 +20,8 @@ use Rattle.feed.specs.declared.step.Standing.TheVariants.{Refused}
 -- whatever run from a new feed: the place is K2's, of the bytes that are in of the refused message
 abbrev pub PlaceWhereRefused : Type 0
 PlaceWhereRefused =
-    (f : Feed) (bytes : List ℕ) (c : Came) (refusal : ReadingRefusal) → Fresh f → Calls f bytes c → c.feed.standing ≡ Refused (MessageRefused refusal)
-    → PlaceOf (take c.feed.count c.feed.kept) (told_refusal refusal)
+    (f : Feed) (bytes : List ℕ) (c : Came) (refusal : ReadingRefusal) → Fresh f → Calls f bytes c → c.feed.beside.standing ≡ Refused (MessageRefused refusal)
+    → PlaceOf (take c.feed.beside.count c.feed.kept) (told_refusal refusal)
 
 -- how many bytes can be in, by a count that no feed has too
 abbrev pub in_room : ℕ → ℕ

@@ -1,113 +1,64 @@
 // A piece goes in: the work of a feed, where the bytes kept are lent and nothing is copied but the piece.
 // It goes in bulk, to the 17th byte and then to the announced length; byte by byte it would come to the same.
 ghost use Rattle.std.specs.Prelude.{◌≡◌, ◌<◌, length};
-ghost use Rattle.feed.specs.Feeding.{inside, begun_by, taking};
-ghost use Rattle.feed.specs.Helpers.{opened, goes_on, Expected, Stretch};
+ghost use Rattle.feed.specs.Feeding.{taking};
+ghost use Rattle.feed.specs.Helpers.{opened, Heading, Stretch};
 ghost use Rattle.feed.specs.Messages.{Few};
 ghost use Rattle.feed.specs.Places.{PointsShort};
-ghost use Rattle.feed.specs.Told.{told_standing, state_of, told_step, Advances};
+ghost use Rattle.feed.specs.Told.{state_of, told_step, Advances};
 ghost use Rattle.feed.specs.Verdict.{room};
 
 use crate::feeder::Feed;
 use crate::filler::{fill, lay};
 use crate::refusal::Refusal;
-use crate::step::{Standing, Step, refuse, stay, wait};
-use envelope::{Announcement, Envelope, announce};
+use crate::step::{Beside, Step};
+use envelope::{Envelope, announce};
 
-// `Feed::take` where the feed is lent in parts: the bytes kept, how many of them are in, and what stands.
+// `Feed::take` where the feed is lent in parts: the bytes kept, and what stands beside them.
 // What follows for a caller is said too: no call uses more bytes than the longest message has or finds a longer one, nor, where the count tells the place of what stands, points past it.
-pub fn advance(kept: &mut [u8; Feed::ROOM], count: usize, standing: Standing, piece: &[u8]) -> Step
-    ensures { Advances kept.old count standing piece.now result kept.new × Few (told_step result kept.new) × PointsShort (state_of kept.old count standing) (told_step result kept.new) }
+pub fn advance(kept: &mut [u8; Feed::ROOM], beside: Beside, piece: &[u8]) -> Step
+    ensures { Advances kept.old beside piece.now result kept.new × Few (told_step result kept.new) × PointsShort (state_of kept.old beside) (told_step result kept.new) }
 {
-    if piece.len() == 0 {
-        return stay(count, standing);
+    if piece.is_empty() || !beside.goes_on() {
+        return beside.stay();
     }
-    if !goes_on(standing) {
-        return stay(count, standing);
-    }
-    grow(kept, begun(count, standing), piece)
-}
-
-// Whether the next byte goes in: unless a refusal stands.
-fn goes_on(standing: Standing) -> bool
-    ensures { result ≡ goes_on (told_standing standing) }
-{
-    match standing {
-        Standing::Inside => true,
-        Standing::Whole => true,
-        Standing::Refused(_) => false,
-    }
-}
-
-// How many bytes of the next message are in. A count that no feed has counts as none.
-pub(crate) fn begun(count: usize, standing: Standing) -> usize
-    ensures { (result ≡ begun_by (told_standing standing) count) × (result < room) }
-{
-    match standing {
-        Standing::Inside => below_room(count),
-        Standing::Whole => 0,
-        Standing::Refused(_) => 0,
-    }
-}
-
-fn below_room(count: usize) -> usize
-    ensures { (result ≡ begun_by inside count) × (result < room) }
-{
-    if count < Feed::ROOM {
-        return count;
-    }
-    0
+    grow(kept, beside.begun(), piece)
 }
 
 // Past the heading, the bytes up to the announced length.
-fn grow(kept: &mut [u8], count: usize, piece: &[u8]) -> Step
-    requires { (length kept.old ≡ room) × (count < room) × (0 < length piece.now) }
+// From here on the bytes kept and their count are two parameters: a struct around the `&mut` would need a clause in each function, that it still lends the same bytes.
+fn grow(kept: &mut [u8; Feed::ROOM], count: usize, piece: &[u8]) -> Step
+    requires { (count < room) × (0 < length piece.now) }
     ensures { told_step result kept.new ≡ taking (opened kept.old count) piece.now }
 {
-    let expected = expects(kept, count);
-    if count < expected {
-        return fill(kept, count, expected, 0, piece);
+    match announced(&kept[..count]) {
+        Ok(Some(whole)) if count < whole => fill(kept, count, whole, 0, piece),
+        _ => through_heading(kept, count, piece),
     }
-    through_heading(kept, count, piece)
 }
 
 // The bytes up to the 17th, or one byte, and then those up to the announced length.
-fn through_heading(kept: &mut [u8], count: usize, piece: &[u8]) -> Step
-    requires { (length kept.old ≡ room) × (count < room) × (0 < length piece.now) }
+fn through_heading(kept: &mut [u8; Feed::ROOM], count: usize, piece: &[u8]) -> Step
+    requires { (count < room) × (0 < length piece.now) }
     ensures { told_step result kept.new ≡ taking (opened kept.old count) piece.now }
 {
     let first = stretch(count, piece.len());
     lay(kept, count, &piece[..first]);
     let in_all = count + first;
-    match announce(&kept[..in_all]) {
-        Announcement::Unfinished => wait(in_all, first),
-        Announcement::Refused(refusal) => refuse(in_all, first, Refusal::MessageRefused(refusal)),
-        Announcement::Length(whole) => {
-            if Feed::ROOM < whole {
-                return refuse(in_all, first, Refusal::TooLong);
-            }
-            fill(kept, in_all, whole, first, &piece[first..])
-        }
+    match announced(&kept[..in_all]) {
+        Ok(Some(whole)) => fill(kept, in_all, whole, first, &piece[first..]),
+        Ok(None) => Step::settled(in_all, first, Ok(None)),
+        Err(refusal) => Step::settled(in_all, first, Err(refusal)),
     }
 }
 
-// The announced length of a message that is on its way past its heading, as long as it has room. Otherwise 0.
-fn expects(kept: &[u8], count: usize) -> usize
-    requires { (length kept.now ≡ room) × (count < room) }
-    ensures { Expected kept.now count result }
+// The length that the bytes of a message announce, none while fewer than a header has are in. One over the room is refused.
+fn announced(message: &[u8]) -> Result<Option<usize>, Refusal>
+    ensures { Heading message.now result }
 {
-    if count < Envelope::HEADER_SIZE {
-        return 0;
-    }
-    match announce(&kept[..count]) {
-        Announcement::Length(whole) => {
-            if whole <= Feed::ROOM {
-                return whole;
-            }
-            0
-        }
-        Announcement::Unfinished => 0,
-        Announcement::Refused(_) => 0,
+    match announce(message)? {
+        Some(whole) if Feed::ROOM < whole => Err(Refusal::TooLong),
+        length => Ok(length),
     }
 }
 
@@ -117,11 +68,7 @@ fn stretch(count: usize, offered: usize) -> usize
     requires { 0 < offered }
     ensures { Stretch count offered result }
 {
-    if Envelope::HEADER_SIZE <= count {
-        return 1;
-    }
-    if offered <= Envelope::HEADER_SIZE - count {
-        return offered;
-    }
-    Envelope::HEADER_SIZE - count
+    Envelope::HEADER_SIZE
+        .saturating_sub(count)
+        .clamp(1, offered)
 }

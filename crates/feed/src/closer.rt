@@ -2,16 +2,15 @@
 // The bytes kept stay as they are, so that they need not be lent.
 ghost use Rattle.feed.specs.Told.{Closes};
 
-use crate::advancer::begun;
 use crate::refusal::Refusal;
-use crate::step::{Standing, Step, refuse, stay};
+use crate::step::{Beside, Step};
 
 // `Feed::end` where the feed is lent in parts.
-pub fn close(count: usize, standing: Standing) -> Step
-    ensures { Closes count standing result }
+pub fn close(beside: Beside) -> Step
+    ensures { Closes beside result }
 {
-    if begun(count, standing) == 0 {
-        return stay(count, standing);
+    if beside.begun() == 0 {
+        return beside.stay();
     }
-    refuse(count, 0, Refusal::Cut)
+    Step::settled(beside.count, 0, Err(Refusal::Cut))
 }

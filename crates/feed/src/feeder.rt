@@ -4,27 +4,27 @@ ghost use Rattle.feed.specs.Told.{Fresh, Takes, Ends};
 
 use crate::advancer::advance;
 use crate::closer::close;
-use crate::step::{Found, Standing};
+use crate::refusal::Refusal;
+use crate::step::{Beside, Message, Standing};
 
-// The first `count` of the bytes kept are those of the message that is on its way, or was found, or was refused.
+// The bytes and their count stand apart: C lends the bytes alone, and `Takes` fixes those past the count too.
 #[derive(Clone, Copy)]
 pub struct Feed {
     pub kept: [u8; Feed::ROOM],
-    pub count: usize,
-    pub standing: Standing,
+    pub beside: Beside,
 }
 
 #[derive(Clone, Copy)]
 pub struct Taken {
     pub feed: Feed,
     pub used: usize,
-    pub found: Found,
+    pub found: Result<Option<Message>, Refusal>,
 }
 
 #[derive(Clone, Copy)]
 pub struct Ended {
     pub feed: Feed,
-    pub found: Found,
+    pub found: Result<Option<Message>, Refusal>,
 }
 
 impl Feed {
@@ -36,49 +36,35 @@ impl Feed {
     {
         Feed {
             kept: [0u8; Feed::ROOM],
-            count: 0,
-            standing: Standing::Inside,
+            beside: Beside {
+                count: 0,
+                standing: Standing::Inside,
+            },
         }
     }
 
     // Uses bytes of the piece until something is found. What is left of it goes into the next call.
-    pub fn take(self, piece: &[u8]) -> Taken
+    pub fn take(mut self, piece: &[u8]) -> Taken
         ensures { Takes self piece.now result }
     {
-        let mut kept = self.kept;
-        let count = self.count;
-        let standing = self.standing;
-        let step = advance(&mut kept, count, standing, piece);
-        let stands = step.standing;
-        let found = step.found;
+        let step = advance(&mut self.kept, self.beside, piece);
+        self.beside = step.beside;
         Taken {
-            feed: Feed {
-                kept,
-                count: step.count,
-                standing: stands,
-            },
+            feed: self,
             used: step.used,
-            found,
+            found: step.found,
         }
     }
 
     // The end of the bytes: no refusal between messages.
-    pub fn end(self) -> Ended
+    pub fn end(mut self) -> Ended
         ensures { Ends self result }
     {
-        let kept = self.kept;
-        let count = self.count;
-        let standing = self.standing;
-        let step = close(count, standing);
-        let stands = step.standing;
-        let found = step.found;
+        let step = close(self.beside);
+        self.beside = step.beside;
         Ended {
-            feed: Feed {
-                kept,
-                count: step.count,
-                standing: stands,
-            },
-            found,
+            feed: self,
+            found: step.found,
         }
     }
 

@@ -1,60 +1,46 @@
 // From the heading to the announced length: bytes go in, and when all are in, reading judges them.
 // Once for each message, so that whoever is handed a message need not read it again.
-ghost use Rattle.std.specs.Prelude.{◌≡◌, ◌+◌, ◌-◌, ◌≤◌, length};
+ghost use Rattle.std.specs.Prelude.{◌≡◌, ◌+◌, ◌≤◌, length};
 ghost use Rattle.envelope.specs.Reading.{reading};
-ghost use Rattle.feed.specs.Helpers.{laid_in, outcome_at, Announced, told_beside, beside};
+ghost use Rattle.feed.specs.Helpers.{laid_in, outcome_at, Announced, told_verdict};
 ghost use Rattle.feed.specs.Told.{told_step};
 ghost use Rattle.feed.specs.Verdict.{room, settled};
 
+use crate::feeder::Feed;
 use crate::refusal::Refusal;
-use crate::step::{Found, Standing, Step, refuse, wait};
-use envelope::{Reading, read};
+use crate::step::Step;
+use envelope::{Envelope, read};
 
 // The heading has passed, and announced a whole of so many bytes.
-pub(crate) fn fill(kept: &mut [u8], count: usize, whole: usize, used: usize, rest: &[u8]) -> Step
-    requires { (length kept.old ≡ room) × Announced kept.old count whole used }
+pub(crate) fn fill(
+    kept: &mut [u8; Feed::ROOM],
+    count: usize,
+    whole: usize,
+    used: usize,
+    rest: &[u8],
+) -> Step
+    requires { Announced kept.old count whole used }
     ensures { told_step result kept.new ≡ outcome_at kept.old count used rest.now }
 {
-    let wanted = due(count, whole);
-    if rest.len() < wanted {
-        lay(kept, count, rest);
-        return wait(count + rest.len(), used + rest.len());
+    let part = &rest[..rest.len().min(whole.saturating_sub(count))];
+    lay(kept, count, part);
+    let in_all = count + part.len();
+    if in_all < whole {
+        return Step::settled(in_all, used + part.len(), Ok(None));
     }
-    lay(kept, count, &rest[..wanted]);
-    finish(&kept[..count + wanted], used + wanted)
-}
-
-// How many bytes are missing: none where all that was announced is in.
-fn due(count: usize, whole: usize) -> usize
-    ensures { result ≡ whole - count }
-{
-    if whole <= count {
-        return 0;
-    }
-    whole - count
+    Step::settled(in_all, used + part.len(), judged(&kept[..in_all]))
 }
 
 // All that was announced is in.
-fn finish(message: &[u8], used: usize) -> Step
-    ensures { told_beside result ≡ beside (settled (reading message.now)) (length message.now) used }
+fn judged(message: &[u8]) -> Result<Option<Envelope>, Refusal>
+    ensures { told_verdict result ≡ settled (reading message.now) }
 {
-    match read(message) {
-        Reading::Accepted(envelope) => Step {
-            count: message.len(),
-            standing: Standing::Whole,
-            used,
-            found: Found::Message {
-                size: message.len(),
-                envelope,
-            },
-        },
-        Reading::Refused(refusal) => refuse(message.len(), used, Refusal::MessageRefused(refusal)),
-    }
+    Ok(Some(read(message)?))
 }
 
 // A part goes in from a place.
-pub(crate) fn lay(kept: &mut [u8], place: usize, part: &[u8])
-    requires { (length kept.old ≡ room) × (place + length part.now ≤ room) }
+pub(crate) fn lay(kept: &mut [u8; Feed::ROOM], place: usize, part: &[u8])
+    requires { place + length part.now ≤ room }
     ensures { kept.new ≡ laid_in kept.old place part.now }
 {
     kept[place..place + part.len()].copy_from_slice(part);

@@ -2,20 +2,14 @@
 // It is there until the next byte comes.
 ghost use Rattle.feed.specs.Told.{Holds};
 
-use crate::step::Standing;
+use crate::step::{Beside, Standing};
 
 // The bytes of the message found, out of those kept. None where there is no message.
-pub fn held<'a>(kept: &'a [u8], count: usize, standing: Standing) -> &'a [u8]
-    ensures { Holds kept.now count standing result.now }
+pub fn held<'a>(kept: &'a [u8], beside: Beside) -> &'a [u8]
+    ensures { Holds kept.now beside result.now }
 {
-    match standing {
-        Standing::Whole => {
-            if kept.len() <= count {
-                return kept;
-            }
-            &kept[..count]
-        }
-        Standing::Inside => &kept[..0],
-        Standing::Refused(_) => &kept[..0],
+    match beside.standing {
+        Standing::Whole => &kept[..beside.count.min(kept.len())],
+        Standing::Inside | Standing::Refused(_) => &kept[..0],
     }
 }

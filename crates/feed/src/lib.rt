@@ -15,4 +15,4 @@ pub use crate::closer::close;
 pub use crate::feeder::{Ended, Feed, Taken};
 pub use crate::holder::held;
 pub use crate::refusal::Refusal;
-pub use crate::step::{Found, Standing, Step};
+pub use crate::step::{Beside, Message, Standing, Step};

@@ -1,6 +1,8 @@
 // What a feed refuses: the refusals of reading, passed on whole, and two of its own.
 // At the 17th byte 2, 3, 4 and 51, with the last announced byte 6 and 7, at the end 52.
+ghost use Rattle.std.specs.Prelude.{◌≡◌};
 ghost use Rattle.feed.specs.Told.{NumbersFeedRefusal};
+ghost use Rattle.feed.specs.declared.refusal.Refusal.TheVariants.{MessageRefused};
 
 use envelope::Numbers;
 
@@ -14,13 +16,22 @@ pub enum Refusal {
     Cut,
 }
 
-impl Refusal {
-    // The numbers of the table of refusals, with the place in the message.
-    pub fn numbers(self) -> Numbers
-        ensures { NumbersFeedRefusal self result }
-    {
-        match self {
-            Refusal::MessageRefused(refusal) => Numbers::by_reading(refusal),
+// A refusal of reading is passed on whole.
+impl From<envelope::Refusal> for Refusal {
+    ghost from_gives = { λ r f. f ≡ MessageRefused r };
+
+    fn from(refusal: envelope::Refusal) -> Refusal {
+        Refusal::MessageRefused(refusal)
+    }
+}
+
+// The numbers of the table of refusals, with the place in the message.
+impl From<Refusal> for Numbers {
+    ghost from_gives = { NumbersFeedRefusal };
+
+    fn from(refusal: Refusal) -> Numbers {
+        match refusal {
+            Refusal::MessageRefused(reading) => Numbers::from(reading),
             Refusal::TooLong => Numbers::plainly(51),
             Refusal::Cut => Numbers::plainly(52),
         }

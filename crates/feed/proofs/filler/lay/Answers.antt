@@ -6,4 +6,4 @@ use Rattle.feed.proofs.filler.lay.Goals as goal
 
 pub returns : goal.returns
 returns c =
-    laid_copy c.args.kept.now c.args.part.now _ c.args.place _ (omega (arith, c.requires.0, c.requires.1)) refl c.copy_from_slice.ensures.after
+    laid_copy c.args.kept.now c.args.part.now _ c.args.place _ (omega (arith, c.told-kept, c.requires)) refl c.copy_from_slice.ensures.after
