@@ -1,4 +1,5 @@
 pub mod PutLaws
+pub mod TypeLaws
 pub mod UnwrapLaws
 pub mod WrapLaws
 pub mod RoundTripLaws

@@ -1,5 +1,6 @@
 -- Out and in again, in and out again, as specs/RoundTrips states them.
 -- The fields of a frame that was put together are those that went in; bytes that are whole are the frame of their own fields.
+use Rattle.std.specs.Prelude.{Result}
 use mathlib.Core.Bool.{Bool, true, false, cond, not, ◌&&◌}
 use mathlib.Core.List.{List, [], ◌∷◌, ◌++◌}
 use mathlib.Core.Path.{◌≡◌, refl, ap, ap₂, sym, ◌∙◌}
@@ -27,7 +28,7 @@ use Rattle.frame.specs.Frames.{header_bytes, frame, data_frame, acknowledgment_f
 use Rattle.frame.specs.Unwrapping.{type_of, commid_of, data_length, acknowledged_of, body_span, other_type, wrong_length, UnwrapAnswer, message, acknowledgment, unwrapping_read, carrying, unwrapping}
 use Rattle.frame.specs.Layout.{etx, data_type, acknowledgment_type, body_place, least_size, commid_place, length_place, commid_size, largest_length}
 use Rattle.frame.specs.RoundTrips.{UnwrapsAs, TellsMessage, WrappedThenUnwrapped, WrappedBufferThenUnwrapped, UnwrappedThenWrapped, UnwrappedThenWrappedBuffer, AcknowledgedThenUnwrapped, AcknowledgedBufferThenUnwrapped, UnwrappedThenAcknowledged, UnwrappedThenAcknowledgedBuffer, Kind, data_message, an_acknowledgment, OneOrTheOther, NeverBoth}
-use Rattle.frame.specs.declared.wrapper.Wrapped as code
+use Rattle.frame.specs.declared.refusal.Refusal.{Refusal}
 use Rattle.frame.proofs.WrapLaws.{past_69, room_enough}
 use Rattle.frame.proofs.UnwrapLaws.{length_whole, acknowledgment_whole, carries_message, carries_acknowledgment, Whole, Opened, opened, unwraps_whole}
 use Rattle.frame.proofs.PutLaws.{frame-length}
@@ -92,7 +93,7 @@ wrapped_frame m commid f e =
     unwraps_whole s (frame_whole data_type commid m is_data refl)
     ∙ ap (carrying s) (type_back data_type commid m)
     ∙ sym
-    (carries_message s data_type commid (sym (commid_back data_type commid m)) (body_place + length m) (ap (λ (k : ℕ). body_place + k) (sym (length_back data_type commid m))) (λ h. omega arith) f
+    (carries_message s data_type commid (sym (commid_back data_type commid m)) (body_place + length m) (ap (λ (k : ℕ). body_place + k) (sym (length_back data_type commid m))) refl f
     (ap reading (ap (λ (k : ℕ). take k (drop body_place s)) n ∙ body_back data_type commid m) ∙ e))
 
 unwraps_as : (m : List ℕ) (commid : ℕ) (f : Fields) → reading m ≡ accepted f → UnwrapsAs (data_frame commid m) commid m
@@ -127,7 +128,7 @@ record Front (o : WrapOutcome) (n : ℕ) (exit : List ℕ) : Type 0 where
   outcome : o ≡ written bytes
   front : take n exit ≡ bytes
 
-front_of : (o : WrapOutcome) (entry exit : List ℕ) (r : code.Wrapped) (n : ℕ) → Answers o entry r exit → told_wrapped r ≡ wrote n → Front o n exit
+front_of : (o : WrapOutcome) (entry exit : List ℕ) (r : Result ℕ Refusal) (n : ℕ) → Answers o entry r exit → told_wrapped r ≡ wrote n → Front o n exit
 front_of (written s) entry exit r n w e =
     let k : n ≡ length s = same n (length s) (sym e ∙ w.0) in
     record {
@@ -261,7 +262,7 @@ unwrapped_then_wrapped s commid p f room bytes e h =
     ∙ ap written same
 
 -- an outcome that is written, as the code answers it
-answered : (o : WrapOutcome) (s entry exit : List ℕ) (r : code.Wrapped) → o ≡ written s → Answers o entry r exit → (told_wrapped r ≡ wrote (length s)) × (exit ≡ put_down s entry)
+answered : (o : WrapOutcome) (s entry exit : List ℕ) (r : Result ℕ Refusal) → o ≡ written s → Answers o entry r exit → (told_wrapped r ≡ wrote (length s)) × (exit ≡ put_down s entry)
 answered o s entry exit r e w = (w.0 ∙ ap answer_to_wrapping e, w.1 ∙ ap (λ (x : WrapOutcome). after_wrapping x entry) e)
 
 pub unwrapped_then_wrapped_buffer : UnwrappedThenWrappedBuffer

@@ -16,7 +16,7 @@ use Rattle.envelope.specs.Reading.{reading}
 use Rattle.envelope.specs.Refusals.{plainly, passing_on, among, Gives}
 use Rattle.frame.specs.Unwrapping.{type_of, commid_of, data_length, acknowledged_of, body_span, too_short, no_stx, wrong_version, other_type, wrong_length, no_etx, UnwrapAnswer, message, acknowledgment, refused, unwrapping_read, carrying, unwrapping, UnwrapGives}
 use Rattle.frame.specs.Capturing.{is_frame}
-use Rattle.frame.specs.Layout.{stx, etx, protocol_version, message_version, acknowledgment_type, stx_place, protocol_version_place, message_version_place, body_place, least_size, commid_size}
+use Rattle.frame.specs.Layout.{stx, etx, protocol_version, message_version, data_type, acknowledgment_type, stx_place, protocol_version_place, message_version_place, body_place, least_size, commid_size}
 
 -- ---- rules that are kept
 
@@ -45,7 +45,7 @@ module _ (s : List ℕ) (t commid : ℕ) (ec : commid ≡ commid_of s) where
   unfolding carrying
   carries_acknowledgment acknowledged a ea = rw (eq-eqb _ _ a, ec, ea)
 
-  module _ (end : ℕ) (ee : end ≡ body_place + data_length s) (a : t ≡ acknowledgment_type → ⊥) where
+  module _ (end : ℕ) (ee : end ≡ body_place + data_length s) (a : t ≡ data_type) where
     size : end - body_place ≡ data_length s
     size = omega arith
 
@@ -55,12 +55,12 @@ module _ (s : List ℕ) (t commid : ℕ) (ec : commid ≡ commid_of s) where
     pub carries_message : (f : Fields) → reading (take (end - body_place) (drop body_place s)) ≡ accepted f
         → message commid (record { place = body_place; size = end - body_place }) f ≡ carrying s t
     unfolding carrying
-    carries_message f e = rw (ne_eqb _ _ a, ← body, e, ec, size)
+    carries_message f e = rw (a, ← body, e, ec, size)
 
     pub carries_refused : (r : fields.Refusal) → reading (take (end - body_place) (drop body_place s)) ≡ refused r
         → refused (passing_on 67 r) ≡ carrying s t
     unfolding carrying
-    carries_refused r e = rw (ne_eqb _ _ a, ← body, e)
+    carries_refused r e = rw (a, ← body, e)
 
 -- ---- what is opened is whole
 

@@ -1,6 +1,7 @@
 pub mod Layout
 pub mod Frames
 pub mod Refusal
+pub mod Types
 pub mod Unwrapping
 pub mod Capturing
 pub mod Wrapping

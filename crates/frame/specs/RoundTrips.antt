@@ -1,6 +1,6 @@
 -- Out and in again, in and out again, for messages and for acknowledgments: of the definitions, then of any answers and buffers that keep the promises. RULES 8.
 -- Each statement is a type here; proofs in proofs/RoundTripLaws.
-use Rattle.std.specs.Prelude.{ℕ, ◌≤◌, true, List, ◌≡◌, length, take}
+use Rattle.std.specs.Prelude.{ℕ, ◌≤◌, true, List, ◌≡◌, length, take, Result, Ok}
 use Rattle.envelope.specs.Fields.{Span, Fields, accepted, part_of}
 use Rattle.envelope.specs.Promise.{Bytes}
 use Rattle.envelope.specs.Reading.{reading}
@@ -13,7 +13,7 @@ use Rattle.frame.specs.declared.unwrapper.Acknowledgment.{Acknowledgment}
 use Rattle.frame.specs.declared.unwrapper.DataMessage.{DataMessage}
 use Rattle.frame.specs.declared.unwrapper.Unwrapped.{Unwrapped}
 use Rattle.frame.specs.declared.unwrapper.Unwrapped.TheVariants.{Data, Acknowledged}
-use Rattle.frame.specs.declared.wrapper.Wrapped.{Wrapped}
+use Rattle.frame.specs.declared.refusal.Refusal.{Refusal}
 
 -- bytes that are unwrapped as this message under this COMMID
 pub record UnwrapsAs (s : List ℕ) (commid : ℕ) (m : List ℕ) : Type 0 where
@@ -24,7 +24,7 @@ pub record UnwrapsAs (s : List ℕ) (commid : ℕ) (m : List ℕ) : Type 0 where
   pub reads : reading m ≡ accepted fields
 
 -- an answer to these bytes that tells this message under this COMMID
-pub record TellsMessage (u : Unwrapped) (s : List ℕ) (commid : ℕ) (m : List ℕ) : Type 0 where
+pub record TellsMessage (u : Result Unwrapped Refusal) (s : List ℕ) (commid : ℕ) (m : List ℕ) : Type 0 where
   pub span : Span
   pub fields : Fields
   pub tells : told_unwrapped u ≡ message commid span fields
@@ -40,7 +40,7 @@ WrappedThenUnwrapped =
 -- the front of the buffer after `wrap` has answered a length, and what `unwrap` answers to it
 abbrev pub WrappedBufferThenUnwrapped : Type 0
 WrappedBufferThenUnwrapped =
-    (m : List ℕ) (commid : ℕ) (entry exit : List ℕ) (r : Wrapped) (n : ℕ) (u : Unwrapped)
+    (m : List ℕ) (commid : ℕ) (entry exit : List ℕ) (r : Result ℕ Refusal) (n : ℕ) (u : Result Unwrapped Refusal)
     → Wraps m commid entry r exit → told_wrapped r ≡ wrote n → Unwraps (take n exit) u → TellsMessage u (take n exit) commid m
 
 abbrev pub UnwrappedThenWrapped : Type 0
@@ -51,7 +51,7 @@ UnwrappedThenWrapped =
 -- what `unwrap` handed out, given to `wrap` with room enough: the same bytes at the front of the buffer
 abbrev pub UnwrappedThenWrappedBuffer : Type 0
 UnwrappedThenWrappedBuffer =
-    (s : List ℕ) (d : DataMessage) (entry exit : List ℕ) (r : Wrapped) → Bytes s → Unwraps s (Data d) → length s ≤ length entry
+    (s : List ℕ) (d : DataMessage) (entry exit : List ℕ) (r : Result ℕ Refusal) → Bytes s → Unwraps s (Ok (Data d)) → length s ≤ length entry
     → Wraps (part_of s (told_part d.message)) d.commid entry r exit → (told_wrapped r ≡ wrote (length s)) × (exit ≡ put_down s entry)
 
 -- ---- an acknowledgment
@@ -63,7 +63,7 @@ AcknowledgedThenUnwrapped =
 
 abbrev pub AcknowledgedBufferThenUnwrapped : Type 0
 AcknowledgedBufferThenUnwrapped =
-    (commid acknowledged : ℕ) (entry exit : List ℕ) (r : Wrapped) (n : ℕ) (u : Unwrapped)
+    (commid acknowledged : ℕ) (entry exit : List ℕ) (r : Result ℕ Refusal) (n : ℕ) (u : Result Unwrapped Refusal)
     → Acknowledges commid acknowledged entry r exit → told_wrapped r ≡ wrote n → Unwraps (take n exit) u
     → told_unwrapped u ≡ acknowledgment commid acknowledged
 
@@ -74,7 +74,7 @@ UnwrappedThenAcknowledged =
 
 abbrev pub UnwrappedThenAcknowledgedBuffer : Type 0
 UnwrappedThenAcknowledgedBuffer =
-    (s : List ℕ) (a : Acknowledgment) (entry exit : List ℕ) (r : Wrapped) → Bytes s → Unwraps s (Acknowledged a) → length s ≤ length entry
+    (s : List ℕ) (a : Acknowledgment) (entry exit : List ℕ) (r : Result ℕ Refusal) → Bytes s → Unwraps s (Ok (Acknowledged a)) → length s ≤ length entry
     → Acknowledges a.commid a.acknowledged entry r exit → (told_wrapped r ≡ wrote (length s)) × (exit ≡ put_down s entry)
 
 -- ---- a frame is one or the other

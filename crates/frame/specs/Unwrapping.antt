@@ -1,6 +1,6 @@
 -- Unwrapping (K12: import): the rules 61 to 67 in their order, the first that applies is the answer; else the message or the acknowledgment. RULES 8.
 -- `s` is the list of the bytes lent.
-use Rattle.std.specs.Prelude.{ℕ, ◌+◌, Bool, cond, not, ◌&&◌, ◌||◌, List, [], ◌∷◌, ◌≡◌, eqb, ltb, length}
+use Rattle.std.specs.Prelude.{ℕ, ◌+◌, Bool, cond, not, ◌&&◌, ◌||◌, List, [], ◌∷◌, ◌≡◌, eqb, ltb, length, Result, Ok, Err}
 use Rattle.envelope.specs.Fields.{Span, Fields, Answer, accepted, part_of}
 use Rattle.envelope.specs.Fields as read
 use Rattle.envelope.specs.Numbers.{byte_at, four_at}
@@ -9,8 +9,9 @@ use Rattle.envelope.specs.Refusals.{Refused, plainly, passing_on, Gives}
 use Rattle.envelope.specs.Told.{told_part, told_envelope}
 use Rattle.frame.specs.Layout.{stx, etx, protocol_version, message_version, data_type, acknowledgment_type, stx_place, protocol_version_place, commid_place, type_place, message_version_place, length_place, body_place, least_size, commid_size}
 use Rattle.frame.specs.Refusal.{told_frame_refusal}
+use Rattle.frame.specs.declared.refusal.Refusal.{Refusal}
 use Rattle.frame.specs.declared.unwrapper.Unwrapped as code
-use Rattle.frame.specs.declared.unwrapper.Unwrapped.TheVariants.{Data, Acknowledged, Refused as Refuses}
+use Rattle.frame.specs.declared.unwrapper.Unwrapped.TheVariants.{Data, Acknowledged}
 
 -- ---- the fields
 
@@ -88,13 +89,13 @@ unwrapping s =
 
 -- ---- the code's answer, told in the paper's numbers
 
-abbrev pub told_unwrapped : code.Unwrapped → UnwrapAnswer
-told_unwrapped (Data d) = message d.commid (told_part d.message) (told_envelope d.envelope)
-told_unwrapped (Acknowledged a) = acknowledgment a.commid a.acknowledged
-told_unwrapped (Refuses f) = refused (told_frame_refusal f)
+abbrev pub told_unwrapped : Result code.Unwrapped Refusal → UnwrapAnswer
+told_unwrapped (Ok (Data d)) = message d.commid (told_part d.message) (told_envelope d.envelope)
+told_unwrapped (Ok (Acknowledged a)) = acknowledgment a.commid a.acknowledged
+told_unwrapped (Err f) = refused (told_frame_refusal f)
 
 -- what `unwrap` promises
-abbrev pub Unwraps : List ℕ → code.Unwrapped → Type 0
+abbrev pub Unwraps : List ℕ → Result code.Unwrapped Refusal → Type 0
 Unwraps s r = told_unwrapped r ≡ unwrapping s
 
 -- which refusals unwrapping can give; proved in proofs/UnwrapLaws

@@ -1,6 +1,6 @@
 -- Wrapping (K12: export): the refusals 67, 69, 68 in their order, the first that applies is the answer; a refusal writes nothing. RULES 8.
 -- Acknowledging is refused for want of room alone. `room` is the length of the buffer.
-use Rattle.std.specs.Prelude.{ℕ, cond, List, [], ◌∷◌, ◌++◌, ◌≡◌, ltb, length, drop}
+use Rattle.std.specs.Prelude.{ℕ, cond, List, [], ◌∷◌, ◌++◌, ◌≡◌, ltb, length, drop, Result, Ok, Err}
 use Rattle.envelope.specs.Fields.{Answer, accepted}
 use Rattle.envelope.specs.Fields as read
 use Rattle.envelope.specs.Promise.{Bytes}
@@ -9,8 +9,7 @@ use Rattle.envelope.specs.Refusals.{Refused, plainly, passing_on, Gives}
 use Rattle.frame.specs.Frames.{data_frame, acknowledgment_frame}
 use Rattle.frame.specs.Layout.{largest_length}
 use Rattle.frame.specs.Refusal.{told_frame_refusal}
-use Rattle.frame.specs.declared.wrapper.Wrapped as code
-use Rattle.frame.specs.declared.wrapper.Wrapped.TheVariants.{Written, Refused as Refuses}
+use Rattle.frame.specs.declared.refusal.Refusal.{Refusal}
 
 -- the outcome: the frame that is written, or a refusal
 pub data WrapOutcome : Type 0 where
@@ -50,20 +49,20 @@ abbrev pub answer_to_wrapping : WrapOutcome → WrapAnswer
 answer_to_wrapping (written frame) = wrote (length frame)
 answer_to_wrapping (refused r) = refused r
 
-abbrev pub told_wrapped : code.Wrapped → WrapAnswer
-told_wrapped (Written n) = wrote n
-told_wrapped (Refuses f) = refused (told_frame_refusal f)
+abbrev pub told_wrapped : Result ℕ Refusal → WrapAnswer
+told_wrapped (Ok n) = wrote n
+told_wrapped (Err f) = refused (told_frame_refusal f)
 
 -- an outcome as the code answers it, and the whole buffer afterwards
-abbrev pub Answers : WrapOutcome → List ℕ → code.Wrapped → List ℕ → Type 0
+abbrev pub Answers : WrapOutcome → List ℕ → Result ℕ Refusal → List ℕ → Type 0
 Answers o entry r exit = (told_wrapped r ≡ answer_to_wrapping o) × (exit ≡ after_wrapping o entry)
 
 -- what `wrap` promises
-abbrev pub Wraps : List ℕ → ℕ → List ℕ → code.Wrapped → List ℕ → Type 0
+abbrev pub Wraps : List ℕ → ℕ → List ℕ → Result ℕ Refusal → List ℕ → Type 0
 Wraps m commid entry r exit = Answers (wrapping m commid (length entry)) entry r exit
 
 -- what `acknowledge` promises
-abbrev pub Acknowledges : ℕ → ℕ → List ℕ → code.Wrapped → List ℕ → Type 0
+abbrev pub Acknowledges : ℕ → ℕ → List ℕ → Result ℕ Refusal → List ℕ → Type 0
 Acknowledges commid acknowledged entry r exit = Answers (acknowledging commid acknowledged (length entry)) entry r exit
 
 -- ---- what follows; proved in proofs/WrapLaws
@@ -75,7 +74,7 @@ Never69 = (m : List ℕ) (commid room : ℕ) → Bytes m → wrapping m commid r
 -- a refusal leaves the buffer as it was
 abbrev pub RefusalWritesNothing : Type 0
 RefusalWritesNothing =
-    (o : WrapOutcome) (entry exit : List ℕ) (r : code.Wrapped) (n : Refused) → Answers o entry r exit → told_wrapped r ≡ refused n → exit ≡ entry
+    (o : WrapOutcome) (entry exit : List ℕ) (r : Result ℕ Refusal) (n : Refused) → Answers o entry r exit → told_wrapped r ≡ refused n → exit ≡ entry
 
 -- which refusals each can give
 abbrev pub WrapGives : Type 0

@@ -8,10 +8,6 @@ pub const PROTOCOL_VERSION: u8 = 2;
 
 pub const MESSAGE_VERSION: u8 = 2;
 
-pub const TYPE_DATA: u8 = 1;
-
-pub const TYPE_ACKNOWLEDGMENT: u8 = 2;
-
 pub const STX_PLACE: usize = 0;
 
 pub const PROTOCOL_VERSION_PLACE: usize = 1;

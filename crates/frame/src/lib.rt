@@ -3,12 +3,14 @@
 #![tactic(auto)]
 
 pub mod capture;
+pub mod frame_type;
 pub mod layout;
 pub mod refusal;
 pub mod unwrapper;
 pub mod wrapper;
 
 pub use crate::capture::first;
+pub use crate::frame_type::FrameType;
 pub use crate::refusal::Refusal;
 pub use crate::unwrapper::{Acknowledgment, DataMessage, Unwrapped, unwrap};
-pub use crate::wrapper::{Wrapped, acknowledge, wrap};
+pub use crate::wrapper::{acknowledge, wrap};

@@ -1,8 +1,6 @@
 // The refusals of frames, in the order of their numbers: six of unwrapping, reading's passed on whole, and want of room.
 // 69 has no case: an accepted message is shorter than the data length can state.
-ghost use Rattle.std.specs.Prelude.{◌≡◌};
-ghost use Rattle.envelope.specs.Refusals.{numbers_of};
-ghost use Rattle.frame.specs.Refusal.{told_frame_refusal, NumbersFrameRefusal};
+ghost use Rattle.frame.specs.Refusal.{PassesMessageOn, NumbersFrameAlone, NumbersFrameRefusal};
 
 use envelope::Numbers;
 
@@ -18,22 +16,21 @@ pub enum Refusal {
     NoRoom,
 }
 
-impl Refusal {
-    // The numbers of the table of refusals. In two steps, for of one match the compiler makes a table in the archive.
-    pub fn numbers(self) -> Numbers
-        ensures { NumbersFrameRefusal self result }
-    {
-        let number = self.number();
-        match self {
-            Refusal::MessageRefused(refusal) => Numbers::passing_on(number, refusal),
-            _ => Numbers::plainly(number),
-        }
-    }
+// Of unwrapping and wrapping alike: the message that the frame carries.
+impl From<envelope::Refusal> for Refusal {
+    ghost from_gives = { PassesMessageOn };
 
-    fn number(self) -> u8
-        ensures { result ≡ (numbers_of (told_frame_refusal self)).number }
-    {
-        match self {
+    fn from(refusal: envelope::Refusal) -> Refusal {
+        Refusal::MessageRefused(refusal)
+    }
+}
+
+// The number of the table of refusals alone.
+impl From<Refusal> for u8 {
+    ghost from_gives = { NumbersFrameAlone };
+
+    fn from(refusal: Refusal) -> u8 {
+        match refusal {
             Refusal::TooShort => 61,
             Refusal::NoStx => 62,
             Refusal::WrongVersion => 63,
@@ -42,6 +39,19 @@ impl Refusal {
             Refusal::NoEtx => 66,
             Refusal::MessageRefused(_) => 67,
             Refusal::NoRoom => 68,
+        }
+    }
+}
+
+// In two steps, for of one match the compiler makes a table in the archive.
+impl From<Refusal> for Numbers {
+    ghost from_gives = { NumbersFrameRefusal };
+
+    fn from(refusal: Refusal) -> Numbers {
+        let number = u8::from(refusal);
+        match refusal {
+            Refusal::MessageRefused(reading) => Numbers::passing_on(number, reading),
+            _ => Numbers::plainly(number),
         }
     }
 }

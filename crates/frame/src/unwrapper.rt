@@ -1,13 +1,15 @@
 // Unwrapping: any bytes in, the message or the acknowledgment out, or the first rule that they break.
 ghost use Rattle.std.specs.Prelude.{false, ◌≡◌, ◌+◌, ◌<◌, ◌≤◌, length};
 ghost use Rattle.envelope.specs.Numbers.{four_at};
-ghost use Rattle.frame.specs.Unwrapping.{data_length, other_type, wrong_version, wrong_length, carrying, told_unwrapped, Unwraps};
+ghost use Rattle.frame.specs.Unwrapping.{data_length, wrong_version, wrong_length, carrying, told_unwrapped, Unwraps};
 ghost use Rattle.frame.specs.Layout.{body_place};
+ghost use Rattle.frame.specs.Types.{told_type};
 
+use crate::frame_type::FrameType;
 use crate::layout;
 use crate::refusal::Refusal;
 use envelope::numbers::four_bytes;
-use envelope::{Envelope, Part, Reading, read};
+use envelope::{Envelope, Part, read};
 
 // A data message: the EMP message is a part of the frame's bytes; the envelope's own parts count from the message's first byte.
 #[derive(Clone, Copy)]
@@ -28,101 +30,84 @@ pub struct Acknowledgment {
 pub enum Unwrapped {
     Data(DataMessage),
     Acknowledged(Acknowledgment),
-    Refused(Refusal),
 }
 
-pub fn unwrap(bytes: &[u8]) -> Unwrapped
+pub fn unwrap(bytes: &[u8]) -> Result<Unwrapped, Refusal>
     ensures { Unwraps bytes.now result }
 {
     if bytes.len() < layout::LEAST_SIZE {
-        return Unwrapped::Refused(Refusal::TooShort);
+        return Err(Refusal::TooShort);
     }
     if bytes[layout::STX_PLACE] != layout::STX {
-        return Unwrapped::Refused(Refusal::NoStx);
+        return Err(Refusal::NoStx);
     }
     if wrong_version(
         bytes[layout::PROTOCOL_VERSION_PLACE],
         bytes[layout::MESSAGE_VERSION_PLACE],
     ) {
-        return Unwrapped::Refused(Refusal::WrongVersion);
+        return Err(Refusal::WrongVersion);
     }
-    let message_type = bytes[layout::TYPE_PLACE];
-    if other_type(message_type) {
-        return Unwrapped::Refused(Refusal::OtherType);
-    }
+    let frame_type = FrameType::try_from(bytes[layout::TYPE_PLACE])?;
     let size = four_at(bytes, layout::LENGTH_PLACE);
-    if wrong_length(message_type, size, bytes.len()) {
-        return Unwrapped::Refused(Refusal::WrongLength);
+    if wrong_length(frame_type, size, bytes.len()) {
+        return Err(Refusal::WrongLength);
     }
     let end = layout::BODY_PLACE + size as usize;
     if bytes[end] != layout::ETX {
-        return Unwrapped::Refused(Refusal::NoEtx);
+        return Err(Refusal::NoEtx);
     }
-    carried_by(bytes, message_type, end)
+    carried_by(bytes, frame_type, end)
 }
 
 // Rule 63.
+#[tactic(auto, unfolding(crate::specs::Unwrapping::wrong_version))]
 fn wrong_version(protocol: u8, message: u8) -> bool
     ensures { result ≡ wrong_version protocol message }
 {
-    if protocol != layout::PROTOCOL_VERSION {
-        return true;
-    }
-    message != layout::MESSAGE_VERSION
-}
-
-// Rule 64.
-fn other_type(message_type: u8) -> bool
-    ensures { result ≡ other_type message_type }
-{
-    if message_type == layout::TYPE_DATA {
-        return false;
-    }
-    message_type != layout::TYPE_ACKNOWLEDGMENT
+    protocol != layout::PROTOCOL_VERSION || message != layout::MESSAGE_VERSION
 }
 
 // Rule 65.
-fn wrong_length(message_type: u8, size: u32, given: usize) -> bool
-    ensures { result ≡ wrong_length message_type size given }
+#[tactic(auto, unfolding(crate::specs::Unwrapping::wrong_length))]
+fn wrong_length(frame_type: FrameType, size: u32, given: usize) -> bool
+    ensures { result ≡ wrong_length (told_type frame_type) size given }
 {
-    if layout::LEAST_SIZE + size as usize != given {
-        return true;
-    }
-    if message_type != layout::TYPE_ACKNOWLEDGMENT {
-        return false;
-    }
-    size as usize != layout::COMMID_SIZE
+    let size = size as usize;
+    layout::LEAST_SIZE + size != given
+        || frame_type == FrameType::Acknowledgment && size != layout::COMMID_SIZE
 }
 
 // What a whole frame carries; its body ends before `end`.
-fn carried_by(bytes: &[u8], message_type: u8, end: usize) -> Unwrapped
-    requires { (end < length bytes.now) × (end ≡ body_place + data_length bytes.now) × (wrong_length message_type (data_length bytes.now) (length bytes.now) ≡ false) }
-    ensures { told_unwrapped result ≡ carrying bytes.now message_type }
+fn carried_by(bytes: &[u8], frame_type: FrameType, end: usize) -> Result<Unwrapped, Refusal>
+    requires { (end < length bytes.now) × (end ≡ body_place + data_length bytes.now) × (wrong_length (told_type frame_type) (data_length bytes.now) (length bytes.now) ≡ false) }
+    ensures { told_unwrapped result ≡ carrying bytes.now (told_type frame_type) }
 {
     let commid = four_at(bytes, layout::COMMID_PLACE);
-    if message_type == layout::TYPE_ACKNOWLEDGMENT {
-        let acknowledged = four_at(bytes, layout::BODY_PLACE);
-        return Unwrapped::Acknowledged(Acknowledgment {
-            commid,
-            acknowledged,
-        });
-    }
-    match read(&bytes[layout::BODY_PLACE..end]) {
-        Reading::Accepted(envelope) => {
+    match frame_type {
+        FrameType::Acknowledgment => {
+            let acknowledged = four_at(bytes, layout::BODY_PLACE);
+            Ok(Unwrapped::Acknowledged(Acknowledgment {
+                commid,
+                acknowledged,
+            }))
+        }
+        FrameType::Data => {
+            let envelope = read(&bytes[layout::BODY_PLACE..end])?;
             let message = Part {
                 place: layout::BODY_PLACE,
                 size: end - layout::BODY_PLACE,
             };
-            Unwrapped::Data(DataMessage {
+            Ok(Unwrapped::Data(DataMessage {
                 commid,
                 message,
                 envelope,
-            })
+            }))
         }
-        Reading::Refused(refusal) => Unwrapped::Refused(Refusal::MessageRefused(refusal)),
     }
 }
 
+// That of `envelope` is not public, for it requires the bytes to be there, which no public function may.
+#[tactic(auto, unfolding(envelope::specs::Numbers::four_at))]
 pub(crate) fn four_at(bytes: &[u8], place: usize) -> u32
     requires { place + 4 ≤ length bytes.now }
     ensures { result ≡ four_at bytes.now place }

@@ -4,60 +4,52 @@ ghost use Rattle.std.specs.Prelude.{◌≡◌, ◌+◌, ◌≤◌, length};
 ghost use Rattle.frame.specs.Wrapping.{Wraps, Acknowledges, put_down};
 ghost use Rattle.frame.specs.Frames.{header_bytes, frame};
 ghost use Rattle.frame.specs.Layout.{least_size, largest_length};
+ghost use Rattle.frame.specs.Types.{told_type};
 
+use crate::frame_type::FrameType;
 use crate::layout;
 use crate::refusal::Refusal;
 use envelope::numbers::four_digits;
-use envelope::{Reading, read};
+use envelope::read;
 
-#[derive(Clone, Copy)]
-pub enum Wrapped {
-    Written(usize),
-    Refused(Refusal),
-}
-
-pub fn wrap(message: &[u8], commid: u32, buffer: &mut [u8]) -> Wrapped
+pub fn wrap(message: &[u8], commid: u32, buffer: &mut [u8]) -> Result<usize, Refusal>
     ensures { Wraps message.now commid buffer.old result buffer.new }
 {
-    match read(message) {
-        Reading::Refused(refusal) => Wrapped::Refused(Refusal::MessageRefused(refusal)),
-        Reading::Accepted(_) => {
-            let size = layout::LEAST_SIZE + message.len();
-            if buffer.len() < size {
-                return Wrapped::Refused(Refusal::NoRoom);
-            }
-            put_frame(layout::TYPE_DATA, commid, message, buffer);
-            Wrapped::Written(size)
-        }
+    read(message)?;
+    let size = layout::LEAST_SIZE + message.len();
+    if buffer.len() < size {
+        return Err(Refusal::NoRoom);
     }
+    put_frame(FrameType::Data, commid, message, buffer);
+    Ok(size)
 }
 
 // Acknowledges a COMMID; the acknowledgment has a COMMID of its own.
-pub fn acknowledge(commid: u32, acknowledged: u32, buffer: &mut [u8]) -> Wrapped
+pub fn acknowledge(commid: u32, acknowledged: u32, buffer: &mut [u8]) -> Result<usize, Refusal>
     ensures { Acknowledges commid acknowledged buffer.old result buffer.new }
 {
     if buffer.len() < layout::ACKNOWLEDGMENT_SIZE {
-        return Wrapped::Refused(Refusal::NoRoom);
+        return Err(Refusal::NoRoom);
     }
     let body = four_digits(acknowledged);
-    put_frame(layout::TYPE_ACKNOWLEDGMENT, commid, &body, buffer);
-    Wrapped::Written(layout::ACKNOWLEDGMENT_SIZE)
+    put_frame(FrameType::Acknowledgment, commid, &body, buffer);
+    Ok(layout::ACKNOWLEDGMENT_SIZE)
 }
 
 // A whole frame, at the front of a buffer that has room for it.
-fn put_frame(message_type: u8, commid: u32, body: &[u8], buffer: &mut [u8])
+fn put_frame(frame_type: FrameType, commid: u32, body: &[u8], buffer: &mut [u8])
     requires { (least_size + length body.now ≤ length buffer.old) × (length body.now ≤ largest_length) }
-    ensures { buffer.new ≡ put_down (frame message_type commid body.now) buffer.old }
+    ensures { buffer.new ≡ put_down (frame (told_type frame_type) commid body.now) buffer.old }
 {
-    let header = header_digits(message_type, commid, body.len());
+    let header = header_digits(frame_type, commid, body.len());
     buffer[..layout::BODY_PLACE].copy_from_slice(&header);
     buffer[layout::BODY_PLACE..layout::BODY_PLACE + body.len()].copy_from_slice(body);
     buffer[layout::BODY_PLACE + body.len()] = layout::ETX;
 }
 
-fn header_digits(message_type: u8, commid: u32, size: usize) -> [u8; layout::BODY_PLACE]
+fn header_digits(frame_type: FrameType, commid: u32, size: usize) -> [u8; layout::BODY_PLACE]
     requires { size ≤ largest_length }
-    ensures { result ≡ header_bytes message_type commid size }
+    ensures { result ≡ header_bytes (told_type frame_type) commid size }
 {
     let commid = four_digits(commid);
     let size = four_digits(size as u32);
@@ -68,7 +60,7 @@ fn header_digits(message_type: u8, commid: u32, size: usize) -> [u8; layout::BOD
         commid[1],
         commid[2],
         commid[3],
-        message_type,
+        u8::from(frame_type),
         layout::MESSAGE_VERSION,
         size[0],
         size[1],

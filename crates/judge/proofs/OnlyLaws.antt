@@ -1,17 +1,17 @@
 -- One answer alone keeps each promise of the judge: what it is told as can be told back.
 -- `untold` undoes `told`, case by case.
+use Rattle.std.specs.Prelude.{Option, Some, None}
 use mathlib.Core.List.{List}
 use mathlib.Core.Path.{◌≡◌, refl, ap, sym, ◌∙◌}
 use Prim.Native.Nat.{ℕ}
 use Rattle.sum.specs.Promise.{Only₁}
 use Rattle.sum.proofs.Laws.{only_by_telling}
 use Rattle.envelope.proofs.OnlyLaws.{untold_refusal, untold_refusal_lem}
+use Rattle.envelope.specs.declared.reader.Refusal.{Refusal}
 use Rattle.judge.specs.Division.{Divides}
 use Rattle.judge.specs.Rules.{RuleAnswer, kept, broken, not_judged, RuleAnswers, judging, broken_rules, LowestAnswer, none_broken, lowest, lowest_of}
 use Rattle.judge.specs.Told.{told_verdict, told_judging, told_lowest, Judges, TellsLowest}
 use Rattle.judge.specs.declared.judging.Judging.{Judging}
-use Rattle.judge.specs.declared.judging.Lowest.{Lowest}
-use Rattle.judge.specs.declared.judging.Lowest.TheVariants.{NoneBroken, Rule}
 use Rattle.judge.specs.declared.judging.Verdict.{Verdict}
 use Rattle.judge.specs.declared.judging.Verdict.TheVariants.{Kept, Broken, NotJudged}
 
@@ -55,13 +55,13 @@ untold_judging_lem j =
 pub only_judges : (bytes : List ℕ) → Only₁ (Judges bytes)
 only_judges bytes = only_by_telling told_judging untold_judging untold_judging_lem (judging bytes)
 
-abbrev untold_lowest : LowestAnswer → Lowest
-untold_lowest none_broken = NoneBroken
-untold_lowest (lowest r) = Rule (untold_refusal r)
+abbrev untold_lowest : LowestAnswer → Option Refusal
+untold_lowest none_broken = None
+untold_lowest (lowest r) = Some (untold_refusal r)
 
-untold_lowest_lem : (l : Lowest) → untold_lowest (told_lowest l) ≡ l
-untold_lowest_lem NoneBroken = refl
-untold_lowest_lem (Rule r) = ap Rule (untold_refusal_lem r)
+untold_lowest_lem : (l : Option Refusal) → untold_lowest (told_lowest l) ≡ l
+untold_lowest_lem None = refl
+untold_lowest_lem (Some r) = ap Some (untold_refusal_lem r)
 
 pub only_tells_lowest : (j : Judging) → Only₁ (TellsLowest j)
 only_tells_lowest j = only_by_telling told_lowest untold_lowest untold_lowest_lem (lowest_of (broken_rules (told_judging j)))

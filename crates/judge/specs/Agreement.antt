@@ -1,18 +1,18 @@
 -- The two readers agree, and so do the two sums: each statement is a type, with its proof in proofs/AgreementLaws and DivisionLaws. RULES 2.
 -- They are stated of the definitions, and of any answers that keep the promises of `read`, `judge`, `Judging::lowest`, `crc` and `divide`.
-use Rattle.std.specs.Prelude.{ℕ, Bool, true, false, List, [], ◌∷◌, ◌≡◌}
+use Rattle.std.specs.Prelude.{ℕ, Bool, true, false, List, [], ◌∷◌, ◌≡◌, Option, Result}
 use Rattle.sum.specs.Crc.{crc32}
 use Rattle.sum.specs.Detection.{Bytes}
 use Rattle.sum.specs.Promise.{Sums}
 use Rattle.envelope.specs.Fields.{Refusal, Answer, accepted, refused}
 use Rattle.envelope.specs.Reading.{reading}
 use Rattle.envelope.specs.Told.{told, Reads}
-use Rattle.envelope.specs.declared.reader.Reading.{Reading}
+use Rattle.envelope.specs.declared.fields.Envelope.{Envelope}
+use Rattle.envelope.specs.declared.reader.Refusal as code
 use Rattle.judge.specs.Division.{divided, Divides}
 use Rattle.judge.specs.Rules.{judging, broken_rules, LowestAnswer, none_broken, lowest, lowest_of}
 use Rattle.judge.specs.Told.{told_judging, told_lowest, Judges, TellsLowest}
 use Rattle.judge.specs.declared.judging.Judging.{Judging}
-use Rattle.judge.specs.declared.judging.Lowest.{Lowest}
 
 abbrev pub none_of : List Refusal → Bool
 none_of [] = true
@@ -36,12 +36,12 @@ ReadersAgree = (s : List ℕ) → Agree (broken_rules (judging s)) (reading s)
 
 abbrev pub AnswersAgree : Type 0
 AnswersAgree =
-    (s : List ℕ) (r : Reading) (j : Judging) → Reads s r → Judges s j → Agree (broken_rules (told_judging j)) (told r)
+    (s : List ℕ) (r : Result Envelope code.Refusal) (j : Judging) → Reads s r → Judges s j → Agree (broken_rules (told_judging j)) (told r)
 
 -- the lowest rule that the judge hands out is the refusal that reading gave, its place too
 abbrev pub LowestIsReadings : Type 0
 LowestIsReadings =
-    (s : List ℕ) (r : Reading) (j : Judging) (l : Lowest) → Reads s r → Judges s j → TellsLowest j l → told_lowest l ≡ refusal_in (told r)
+    (s : List ℕ) (r : Result Envelope code.Refusal) (j : Judging) (l : Option code.Refusal) → Reads s r → Judges s j → TellsLowest j l → told_lowest l ≡ refusal_in (told r)
 
 -- the CRC that division finds is the sum, for every list of bytes
 abbrev pub DividedIsCrc : Type 0

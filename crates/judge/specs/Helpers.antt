@@ -1,10 +1,12 @@
 -- The meaning of the one private helper of `lowest`. Nothing that a public promise says is defined here.
--- A rule in front of the lowest of those behind it.
-use Rattle.std.specs.Prelude.{ℕ}
-use Rattle.envelope.specs.Fields.{refusal_by}
-use Rattle.judge.specs.Rules.{RuleAnswer, kept, broken, not_judged, LowestAnswer, lowest}
+-- A rule's refusal, where it is broken.
+use Rattle.std.specs.Prelude.{Option, Some, None}
+use Rattle.envelope.specs.declared.reader.Fault.{Fault}
+use Rattle.envelope.specs.declared.reader.Refusal.{Refusal}
+use Rattle.judge.specs.declared.judging.Verdict.{Verdict}
+use Rattle.judge.specs.declared.judging.Verdict.TheVariants.{Kept, Broken, NotJudged}
 
-abbrev pub lowest_with : RuleAnswer → (number : ℕ) → LowestAnswer → LowestAnswer
-lowest_with kept number behind = behind
-lowest_with (broken place) number behind = lowest (refusal_by number place)
-lowest_with not_judged number behind = behind
+abbrev pub refused_as : Verdict → Fault → Option Refusal
+refused_as Kept fault = None
+refused_as (Broken place) fault = Some (record { fault = fault; place = place })
+refused_as NotJudged fault = None

@@ -1,11 +1,10 @@
 -- The paper's answer for each case of the code's, and what `judge` and `Judging::lowest` promise.
 -- The order of the rules is that of the table of reading.
-use Rattle.std.specs.Prelude.{List, ◌≡◌, ℕ}
+use Rattle.std.specs.Prelude.{List, ◌≡◌, ℕ, Option, Some, None}
 use Rattle.envelope.specs.Told.{told_refusal}
+use Rattle.envelope.specs.declared.reader.Refusal.{Refusal}
 use Rattle.judge.specs.Rules.{RuleAnswer, kept, broken, not_judged, RuleAnswers, judging, broken_rules, LowestAnswer, none_broken, lowest, lowest_of}
 use Rattle.judge.specs.declared.judging.Judging.{Judging}
-use Rattle.judge.specs.declared.judging.Lowest.{Lowest}
-use Rattle.judge.specs.declared.judging.Lowest.TheVariants.{NoneBroken, Rule}
 use Rattle.judge.specs.declared.judging.Verdict.{Verdict}
 use Rattle.judge.specs.declared.judging.Verdict.TheVariants.{Kept, Broken, NotJudged}
 
@@ -30,10 +29,10 @@ told_judging j =
 abbrev pub Judges : List ℕ → Judging → Type 0
 Judges bytes r = told_judging r ≡ judging bytes
 
-abbrev pub told_lowest : Lowest → LowestAnswer
-told_lowest NoneBroken = none_broken
-told_lowest (Rule r) = lowest (told_refusal r)
+abbrev pub told_lowest : Option Refusal → LowestAnswer
+told_lowest None = none_broken
+told_lowest (Some r) = lowest (told_refusal r)
 
 -- what `Judging::lowest` promises: the broken rule with the lowest number, as reading refuses it
-abbrev pub TellsLowest : Judging → Lowest → Type 0
+abbrev pub TellsLowest : Judging → Option Refusal → Type 0
 TellsLowest j r = told_lowest r ≡ lowest_of (broken_rules (told_judging j))

@@ -1,9 +1,8 @@
 // Judging a message by every rule of the table of reading, whatever the other rules find.
 // The answer has a verdict for each rule, and its lowest broken one is the refusal that reading gives.
 ghost use Rattle.std.specs.Prelude.{◌≡◌};
-ghost use Rattle.envelope.specs.Told.{told_fault};
-ghost use Rattle.judge.specs.Helpers.{lowest_with};
-ghost use Rattle.judge.specs.Told.{told_verdict, told_lowest, Judges, TellsLowest};
+ghost use Rattle.judge.specs.Helpers.{refused_as};
+ghost use Rattle.judge.specs.Told.{Judges, TellsLowest};
 
 use crate::rules;
 use envelope::{Fault, Refusal};
@@ -44,41 +43,27 @@ pub fn judge(bytes: &[u8]) -> Judging
     }
 }
 
-// The broken rule with the lowest number, as reading refuses it.
-#[derive(Clone, Copy)]
-pub enum Lowest {
-    NoneBroken,
-    Rule(Refusal),
-}
-
 impl Judging {
-    pub fn lowest(self) -> Lowest
+    // The broken rule with the lowest number, as reading refuses it.
+    pub fn lowest(self) -> Option<Refusal>
         ensures { TellsLowest self result }
     {
-        let least = self.least;
-        let version = self.version;
-        let flags = self.flags;
-        let variable_size = self.variable_size;
-        let length = self.length;
-        let addresses = self.addresses;
-        let integrity = self.integrity;
-        let from_seven = lowest_with(integrity, Fault::BadIntegrity, Lowest::NoneBroken);
-        let from_six = lowest_with(addresses, Fault::BadAddresses, from_seven);
-        let from_five = lowest_with(length, Fault::WrongLength, from_six);
-        let from_four = lowest_with(variable_size, Fault::BadVariableSize, from_five);
-        let from_three = lowest_with(flags, Fault::BadFlags, from_four);
-        let from_two = lowest_with(version, Fault::WrongVersion, from_three);
-        lowest_with(least, Fault::TooShort, from_two)
+        refused_as(self.least, Fault::TooShort)
+            .or(refused_as(self.version, Fault::WrongVersion))
+            .or(refused_as(self.flags, Fault::BadFlags))
+            .or(refused_as(self.variable_size, Fault::BadVariableSize))
+            .or(refused_as(self.length, Fault::WrongLength))
+            .or(refused_as(self.addresses, Fault::BadAddresses))
+            .or(refused_as(self.integrity, Fault::BadIntegrity))
     }
 }
 
-// This rule where it is broken, and else the lowest of those behind it.
-fn lowest_with(verdict: Verdict, fault: Fault, behind: Lowest) -> Lowest
-    ensures { told_lowest result ≡ lowest_with (told_verdict verdict) (told_fault fault) (told_lowest behind) }
+// The refusal of a rule that is broken.
+fn refused_as(verdict: Verdict, fault: Fault) -> Option<Refusal>
+    ensures { result ≡ refused_as verdict fault }
 {
     match verdict {
-        Verdict::Broken(place) => Lowest::Rule(Refusal { fault, place }),
-        Verdict::Kept => behind,
-        Verdict::NotJudged => behind,
+        Verdict::Broken(place) => Some(Refusal { fault, place }),
+        Verdict::Kept | Verdict::NotJudged => None,
     }
 }

@@ -7,4 +7,4 @@ pub mod judging;
 mod rules;
 
 pub use crate::division::divide;
-pub use crate::judging::{Judging, Lowest, Verdict, judge};
+pub use crate::judging::{Judging, Verdict, judge};

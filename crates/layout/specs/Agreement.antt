@@ -1,10 +1,9 @@
 -- The layout of a message that reading accepts is made of the parts that reading hands out: a type, with its proof in proofs/AgreementLaws. RULES 1 and 2.
 -- It is stated of any answers that keep the promises of `envelope::read` and of `layout_of`.
-use Rattle.std.specs.Prelude.{ℕ, List, ◌≡◌}
+use Rattle.std.specs.Prelude.{ℕ, List, ◌≡◌, Ok}
 use Rattle.envelope.specs.Fields.{Span, AddressingFields, present, Fields}
 use Rattle.envelope.specs.Told.{told_envelope, Reads}
 use Rattle.envelope.specs.declared.fields.Envelope.{Envelope}
-use Rattle.envelope.specs.declared.reader.Reading.TheVariants.{Accepted}
 use Rattle.layout.specs.Layout.{LaidOut}
 use Rattle.layout.specs.declared.layout.Layout.{Layout}
 
@@ -20,4 +19,4 @@ abbrev pub MadeOf : Layout → Fields → Type 0
 MadeOf l f = HasDestination l f.addressing × HasBody l f.body
 
 abbrev pub LayoutIsReadings : Type 0
-LayoutIsReadings = (s : List ℕ) (e : Envelope) (l : Layout) → Reads s (Accepted e) → LaidOut s l → MadeOf l (told_envelope e)
+LayoutIsReadings = (s : List ℕ) (e : Envelope) (l : Layout) → Reads s (Ok e) → LaidOut s l → MadeOf l (told_envelope e)

@@ -56,6 +56,6 @@ field_at l p =
 abbrev pub LiesIn : Layout → ℕ → Field → Type 0
 LiesIn l p r = r ≡ field_at l p
 
--- what `Field::order` promises
+-- what `u8::from` promises of a field
 abbrev pub TellsOrder : Field → ℕ → Type 0
 TellsOrder f r = r ≡ order_of f

@@ -7,7 +7,7 @@ use crate::layout::Layout;
 use envelope::Envelope;
 
 // The fields in the order of the table, and what lies past the message.
-#[derive(Clone, Copy)]
+#[derive(Clone, Copy, Debug, PartialEq, Eq)]
 pub enum Field {
     HeaderVersion,
     MessageType,
@@ -26,32 +26,17 @@ pub enum Field {
     Beyond,
 }
 
-impl Field {
-    // Its place in the table, from 0; what lies past the message comes after all of them.
-    pub fn order(self) -> u8
-        ensures { TellsOrder self result }
-    {
-        match self {
-            Field::HeaderVersion => 0,
-            Field::MessageType => 1,
-            Field::MessageVersion => 2,
-            Field::Flags => 3,
-            Field::DataLength => 4,
-            Field::MessageNumber => 5,
-            Field::MessageTime => 6,
-            Field::VariableSize => 7,
-            Field::Ttl => 8,
-            Field::Qos => 9,
-            Field::Source => 10,
-            Field::Destination => 11,
-            Field::Body => 12,
-            Field::Integrity => 13,
-            Field::Beyond => 14,
-        }
+// Its place in the table, from 0; what lies past the message comes after all of them.
+impl From<Field> for u8 {
+    ghost from_gives = { TellsOrder };
+
+    fn from(field: Field) -> u8 {
+        field as u8
     }
 }
 
 // Past the header it counts from where the body begins: no layout is too large for that.
+#[tactic(auto, unfolding(crate::specs::Fields::field_at))]
 pub fn field_at(layout: Layout, place: usize) -> Field
     ensures { LiesIn layout place result }
 {
@@ -71,6 +56,7 @@ pub fn field_at(layout: Layout, place: usize) -> Field
     Field::Beyond
 }
 
+#[tactic(auto, unfolding(crate::specs::Fields::header_field))]
 fn header_field(place: usize) -> Field
     ensures { result ≡ header_field place }
 {
@@ -98,6 +84,7 @@ fn header_field(place: usize) -> Field
     Field::VariableSize
 }
 
+#[tactic(auto, unfolding(crate::specs::Fields::variable_field))]
 fn variable_field(destination: usize, place: usize) -> Field
     ensures { result ≡ variable_field destination place }
 {

@@ -1,14 +1,13 @@
 // The layout of a message: where its destination and its body begin, as its bytes state it.
 // Rests on `envelope` for the table's numbers; it takes any bytes, and one that is not there counts as 0.
-ghost use Rattle.std.specs.Prelude.{◌≡◌, ◌-◌, ◌<◌, ◌≤◌, length};
-ghost use Rattle.envelope.specs.Addresses.{region_of, first_zero, source_size};
+ghost use Rattle.std.specs.Prelude.{◌≡◌, ◌<◌};
+ghost use Rattle.envelope.specs.Addresses.{region_of, source_size};
 ghost use Rattle.envelope.specs.Heading.{variable_size, data_length};
-ghost use Rattle.envelope.specs.Layout.{routing_size};
 ghost use Rattle.envelope.specs.Numbers.{byte_at};
 ghost use Rattle.layout.specs.Layout.{LaidOut};
 
 use envelope::numbers::three_bytes;
-use envelope::{Envelope, Part};
+use envelope::{Envelope, Part, first_zero};
 
 // The places by which one message's fields differ from another's.
 #[derive(Clone, Copy)]
@@ -50,47 +49,20 @@ fn data_length(message: &[u8]) -> usize
     d as usize
 }
 
-// The source without its zero, in the V - 4 bytes after TTL and QoS, as far as they reach.
+// The source without its zero, in the V - 4 bytes after TTL and QoS, as far as they reach. A V below 4 leaves no room for addresses.
 fn source_size(message: &[u8], v: usize) -> usize
     requires { v < 256 }
     ensures { (result ≡ source_size (region_of message.now v)) × (result < 256) }
 {
     let region = Part {
         place: Envelope::ADDRESSES_PLACE,
-        size: region_size(v),
+        size: v.saturating_sub(Envelope::ROUTING_SIZE),
     };
     first_zero(region.slice(message))
-}
-
-// A V below 4 leaves no room for addresses.
-fn region_size(v: usize) -> usize
-    ensures { result ≡ v - routing_size }
-{
-    if v < Envelope::ROUTING_SIZE {
-        return 0;
-    }
-    v - Envelope::ROUTING_SIZE
-}
-
-// How many bytes stand before the first zero: all, where there is none.
-fn first_zero(bytes: &[u8]) -> usize
-    ensures { (result ≡ first_zero bytes.now) × (result ≤ length bytes.now) }
-{
-    let mut i = 0;
-    while i < bytes.len() {
-        if bytes[i] == 0 {
-            return i;
-        }
-        i += 1;
-    }
-    i
 }
 
 fn byte_at(bytes: &[u8], place: usize) -> u8
     ensures { result ≡ byte_at bytes.now place }
 {
-    if place < bytes.len() {
-        return bytes[place];
-    }
-    0
+    bytes.get(place).copied().unwrap_or(0)
 }

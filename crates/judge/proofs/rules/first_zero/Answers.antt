@@ -1,28 +1,12 @@
--- `rules::first_zero`: a zero here, one later on, or none to the end.
-use native.Mathlib.Omega.{arith}
-use Rattle.envelope.proofs.ZeroLaws.{zero_here, zero_later, zero_never}
+-- `rules::first_zero` is where the library finds the first zero, or the end where there is none.
+use Rattle.std.proofs.Common.{eqb, rules, tests}
+use Rattle.std.proofs.lemmas.Iterator.{YieldsList-from_slice}
+use Rattle.std.proofs.lemmas.Iterator.Search.{position_from_yields_List}
+use Rattle.envelope.proofs.ZeroLaws.{first_zero_found}
 use Rattle.judge.proofs.rules.first_zero.Goals as goal
-
-pub loop-i-init : goal.loop-i-init
-loop-i-init c = (omega arith, omega arith)
-
-pub bounds-bytes-i : goal.bounds-bytes-i
-bounds-bytes-i c = omega arith
-
-pub returns-then-bytes-i-eq0 : goal.returns-then-bytes-i-eq0
-returns-then-bytes-i-eq0 c =
-    omega (arith, zero_here c.args.bytes.now c.loop-i.i (omega arith) c.if-bytes-i-eq0.true, c.loop-i.invariant)
-
-pub overflow_add-i : goal.overflow_add-i
-overflow_add-i c = omega arith
-
-pub loop-i-smaller : goal.loop-i-smaller
-loop-i-smaller c = omega arith
-
-pub loop-i-preserved : goal.loop-i-preserved
-loop-i-preserved c =
-    (omega arith, omega (arith, zero_later c.args.bytes.now c.loop-i.i (omega arith) c.if-bytes-i-eq0.false, c.loop-i.invariant))
 
 pub returns : goal.returns
 returns c =
-    omega (arith, zero_never c.args.bytes.now c.loop-i.i (omega arith), c.loop-i.invariant)
+    let s = c.args.bytes.now in
+    let p = position_from_yields_List (λ b. eqb b 0) _ _ _ c.position.ensures.ran (YieldsList-from_slice s cc) (λ x b q k. search (rules, tests)) in
+    rw (c.unwrap_or.ensures, p) (first_zero_found s)

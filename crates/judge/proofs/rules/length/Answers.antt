@@ -8,12 +8,9 @@ use lib.ListN.{length}
 use Rattle.envelope.proofs.HeadingLaws.{announced_is}
 use Rattle.envelope.specs.Heading.{announced}
 use Rattle.envelope.specs.Layout.{data_length_place}
-use Rattle.judge.proofs.VerdictLaws.{length_far, length_near}
+use Rattle.judge.proofs.VerdictLaws.{length_near}
 use Rattle.judge.specs.Rules.{judged}
 use Rattle.judge.proofs.rules.length.Goals as goal
-
-pub returns-then-bytes-lt-HEADER_SIZE : goal.returns-then-bytes-lt-HEADER_SIZE
-returns-then-bytes-lt-HEADER_SIZE c = sym (length_far c.args.bytes.now c.if-bytes-lt-HEADER_SIZE.true)
 
 pub returns : goal.returns
 returns c =

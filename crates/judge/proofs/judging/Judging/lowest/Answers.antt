@@ -1,17 +1,16 @@
--- `judging::Judging::lowest`: rule by rule from the last, each in front of the lowest of those behind it.
-use mathlib.Core.List.{[]}
-use mathlib.Core.Path.{refl}
-use Rattle.judge.proofs.LowestLaws.{in_front}
-use Rattle.judge.specs.Told.{told_judging}
+-- `judging::Judging::lowest`: rule by rule from the first, each answering where it is broken.
+use Rattle.judge.proofs.LowestLaws.{first_rule, next_rule, all_rules}
 use Rattle.judge.proofs.judging.Judging.lowest.Goals as goal
 
 pub returns : goal.returns
 returns c =
-    let j = told_judging c.args.self in
-    in_front j.least 1 _ _ _ c.lowest_with.ensures
-    (in_front j.version 2 _ _ _ c.lowest_with-from_two.ensures
-    (in_front j.flags 3 _ _ _ c.lowest_with-from_three.ensures
-    (in_front j.variable_size 4 _ _ _ c.lowest_with-from_four.ensures
-    (in_front j.length 5 _ _ _ c.lowest_with-from_five.ensures
-    (in_front j.addresses 6 _ _ _ c.lowest_with-from_six.ensures
-    (in_front j.integrity 7 [] _ _ c.lowest_with-from_seven.ensures refl))))))
+    let j = c.args.self in
+    all_rules _ _
+    (next_rule j.integrity _ _ c.refused_as-7.ensures _ _ _
+    (next_rule j.addresses _ _ c.refused_as-6.ensures _ _ _
+    (next_rule j.length _ _ c.refused_as-5.ensures _ _ _
+    (next_rule j.variable_size _ _ c.refused_as-4.ensures _ _ _
+    (next_rule j.flags _ _ c.refused_as-3.ensures _ _ _
+    (next_rule j.version _ _ c.refused_as-2.ensures _ _ _
+    (first_rule j.least _ _ c.refused_as.ensures)
+    c.or.ensures) c.or-2.ensures) c.or-3.ensures) c.or-4.ensures) c.or-5.ensures) c.or-6.ensures)
