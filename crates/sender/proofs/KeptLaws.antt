@@ -1,12 +1,10 @@
 -- A refusal leaves the queue, and after any answer the state keeps the queue after it. By the cases of the definition.
-use Prim.Native.Nat.{ℕ, ◌-◌}
-use mathlib.Core.Bool.{Bool, true, false, cond}
+use Prim.Native.Nat.{ℕ}
 use mathlib.Core.List.{List}
 use mathlib.Core.Path.{◌≡◌, refl, ap, sym}
-use lib.Dec.{leb, eqb}
-use lib.ListN.{length}
 use lib.Seq.{take-append_seam}
-use Rattle.sender.specs.Queue.{Slot, empty, holds, Queue, queue, Event, submit, ack, nak, time_out, Reply, sent, waits, settles, again, fails, refused, Outcome, outcome, refusal, among, known, placed, next, freed, is_in_flight, left, submitting, acking, naking, answering}
+use Rattle.sender.specs.Queue.{Slot, empty, holds, Queue, queue, Event, Reply, sent, waits, settles, again, fails, refused, Outcome, placed, answering}
+use Rattle.sender.proofs.CaseLaws.{Cases, each_case}
 use Rattle.sender.specs.Told.{State, queue_of, keeping, leaving, happening}
 
 -- where the reply is a refusal, the queue is as before
@@ -21,37 +19,22 @@ KeptBy (refused r) q before = q ≡ before
 abbrev Kept : Outcome → Queue → Type 0
 Kept o q = KeptBy o.reply o.after q
 
-either_kept : (b : Bool) (o o' : Outcome) (q : Queue) → Kept o q → Kept o' q → Kept (cond b o o') q
-either_kept true o o' q h h' = h
-either_kept false o o' q h h' = h'
-
 placed_kept : (x n : ℕ) (s : Slot) (ws : List ℕ) (q : Queue) → Kept (placed x n s ws) q
 placed_kept x n empty ws q = tt
 placed_kept x n (holds y k) ws q = tt
 
-submit_kept : (x : ℕ) (q : Queue) → Kept (submitting x q) q
-unfolding submitting
-submit_kept x q =
-    either_kept (leb 16 (length q.waiting)) _ _ q refl
-    (either_kept (among x (known q.slot q.waiting)) _ _ q refl (placed_kept x q.resends q.slot q.waiting q))
-
-ack_kept : (x : ℕ) (q : Queue) → Kept (acking x q) q
-unfolding acking
-ack_kept x q = either_kept (is_in_flight x q.slot) (outcome (settles (next q.waiting)) (freed q.resends q.waiting)) (refusal 72 q) q tt refl
-
-nak_kept : (x : ℕ) (q : Queue) → Kept (naking x q) q
-unfolding naking
-nak_kept x q =
-    either_kept (is_in_flight x q.slot) _ (refusal 72 q) q
-    (either_kept (eqb (left q.slot) 0) (outcome (fails (next q.waiting)) (freed q.resends q.waiting))
-    (outcome again (queue q.resends (holds x (left q.slot - 1)) q.waiting)) q tt tt)
-    refl
+kept_cases : (q : Queue) → Cases q.resends q.slot q.waiting (λ e o. Kept o q)
+kept_cases q =
+    record {
+      refused = λ e k meets. refl;
+      placed = λ x room new. placed_kept x q.resends q.slot q.waiting q;
+      settled = λ e here. tt;
+      failed = λ e here none. tt;
+      again = λ e here some. tt;
+    }
 
 pub answer_kept : (e : Event) (q : Queue) → Kept (answering e q) q
-answer_kept (submit x) q = submit_kept x q
-answer_kept (ack x) q = ack_kept x q
-answer_kept (nak x) q = nak_kept x q
-answer_kept (time_out x) q = nak_kept x q
+answer_kept e q = each_case q.resends q.slot q.waiting (λ d o. Kept o q) (kept_cases q) e
 
 -- the places give back those that wait
 pub keeping_queue : (q : Queue) → queue_of (keeping q) ≡ q

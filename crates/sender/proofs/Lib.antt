@@ -1,7 +1,5 @@
 pub mod AmongLaws
-pub mod StoreLaws
-pub mod QueueLaws
-pub mod AnswerLaws
+pub mod CaseLaws
 pub mod KeptLaws
 pub mod OnlyLaws
 pub mod RefusingLaws

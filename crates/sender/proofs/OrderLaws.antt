@@ -1,16 +1,14 @@
 -- Oldest first: by induction on the events, from any queue in which an empty slot has nothing waiting. Each event moves a COMMID from the front
 -- of one list to the end of the list before it, or puts a new one at the end of the last.
 use Prim.Native.Nat.{ℕ, ◌-◌}
-use mathlib.Core.Bool.{Bool, true, false, cond, true≢false}
 use mathlib.Core.List.{List, [], ◌∷◌, ◌++◌, append_assoc, append-nil}
 use mathlib.Core.Path.{◌≡◌, refl, ap, sym, ◌∙◌}
-use lib.Dec.{leb, eqb}
-use lib.ListN.{length}
-use borrow.Author.Tests.{eqb-true}
+use borrow.Author.Tests.{eqb-true, clash}
 use Rattle.sender.specs.Accounts.{in_slot}
 use Rattle.sender.specs.History.{Line, line, commid_of, submissions, history, final}
 use Rattle.sender.specs.Order.{commids, went_out, ended, OldestFirst}
-use Rattle.sender.specs.Queue.{Slot, empty, holds, Queue, queue, Event, submit, ack, nak, time_out, settles, again, fails, Outcome, outcome, refusal, among, known, placed, next, freed, is_in_flight, left, submitting, acking, naking, answering}
+use Rattle.sender.specs.Queue.{Slot, empty, holds, Queue, queue, Event, submit, settles, again, fails, Outcome, outcome, refusal, placed, next, freed, answering}
+use Rattle.sender.proofs.CaseLaws.{Cases, each_case}
 use Rattle.sender.proofs.StandingLaws.{Good, fine}
 
 -- what a line does, before whatever lines follow it: `late` is what waits at the end, `last` what is in flight at the end
@@ -55,34 +53,26 @@ again_moves n y k j x ws e p =
     record { out = λ ls late h. h; over = λ ls last h. ap (λ (z : ℕ). z ∷ went_out ls) (sym p) ∙ h }
 
 -- the events
-submit_cases : (n : ℕ) (s : Slot) (ws : List ℕ) → Good s ws → (x : ℕ) (b c : Bool)
-    → Moves s ws (submit x) (cond b (refusal 70 (queue n s ws)) (cond c (refusal 71 (queue n s ws)) (placed x n s ws)))
-submit_cases n s ws g x true c = refused_moves n s ws (submit x) 70
-submit_cases n s ws g x false true = refused_moves n s ws (submit x) 71
-submit_cases n s ws g x false false = placed_moves n s ws g x
-
-ack_cases : (n : ℕ) (s : Slot) (ws : List ℕ) (e : Event) (b : Bool) → is_in_flight (commid_of e) s ≡ b
-    → Moves s ws e (cond b (outcome (settles (next ws)) (freed n ws)) (refusal 72 (queue n s ws)))
-ack_cases n empty ws e true p = absurd (true≢false (sym p))
-ack_cases n empty ws e false p = refused_moves n empty ws e 72
-ack_cases n (holds y k) ws e true p = settled_moves n y k ws e (eqb-true (commid_of e) y p)
-ack_cases n (holds y k) ws e false p = refused_moves n (holds y k) ws e 72
-
-nak_cases : (n : ℕ) (s : Slot) (ws : List ℕ) (e : Event) (b c : Bool) → is_in_flight (commid_of e) s ≡ b
-    → Moves s ws e
-    (cond b (cond c (outcome (fails (next ws)) (freed n ws)) (outcome again (queue n (holds (commid_of e) (left s - 1)) ws))) (refusal 72 (queue n s ws)))
-nak_cases n empty ws e true c p = absurd (true≢false (sym p))
-nak_cases n empty ws e false c p = refused_moves n empty ws e 72
-nak_cases n (holds y k) ws e true true p = failed_moves n y k ws e (eqb-true (commid_of e) y p)
-nak_cases n (holds y k) ws e true false p = again_moves n y k (k - 1) (commid_of e) ws e (eqb-true (commid_of e) y p)
-nak_cases n (holds y k) ws e false c p = refused_moves n (holds y k) ws e 72
+move_cases : (n : ℕ) (s : Slot) (ws : List ℕ) → Good s ws → Cases n s ws (Moves s ws)
+move_cases n empty ws g =
+    record {
+      refused = λ e k meets. refused_moves n empty ws e k;
+      placed = λ x room new. placed_moves n empty ws g x;
+      settled = λ e here. absurd (clash here);
+      failed = λ e here none. absurd (clash here);
+      again = λ e here some. absurd (clash here);
+    }
+move_cases n (holds y k) ws g =
+    record {
+      refused = λ e k' meets. refused_moves n (holds y k) ws e k';
+      placed = λ x room new. placed_moves n (holds y k) ws g x;
+      settled = λ e here. settled_moves n y k ws e (eqb-true (commid_of e) y here);
+      failed = λ e here none. failed_moves n y k ws e (eqb-true (commid_of e) y here);
+      again = λ e here some. again_moves n y k (k - 1) (commid_of e) ws e (eqb-true (commid_of e) y here);
+    }
 
 moves : (n : ℕ) (s : Slot) (ws : List ℕ) → Good s ws → (e : Event) → Moves s ws e (answering e (queue n s ws))
-unfolding submitting acking naking
-moves n s ws g (submit x) = submit_cases n s ws g x (leb 16 (length ws)) (among x (known s ws))
-moves n s ws g (ack x) = ack_cases n s ws (ack x) (is_in_flight x s) refl
-moves n s ws g (nak x) = nak_cases n s ws (nak x) (is_in_flight x s) (eqb (left s) 0) refl
-moves n s ws g (time_out x) = nak_cases n s ws (time_out x) (is_in_flight x s) (eqb (left s) 0) refl
+moves n s ws g e = each_case n s ws (Moves s ws) (move_cases n s ws g) e
 
 -- after any events, from any good queue
 record Ordered (s : Slot) (ws : List ℕ) (q : Queue) (ls : List Line) : Type 0 where

@@ -1,27 +1,26 @@
 -- Refusals change nothing, and which event can meet which: by the cases of the definition.
-use Prim.Native.Nat.{ℕ, ◌-◌, ◌≤◌, ◌<◌}
-use mathlib.Core.Bool.{Bool, true, false, cond}
-use mathlib.Core.List.{List, [], ◌∷◌}
-use mathlib.Core.Path.{◌≡◌, refl, ap, sym, ◌∙◌, subst}
-use lib.Dec.{leb, eqb}
+use Prim.Native.Nat.{ℕ, ◌≤◌, ◌<◌}
+use mathlib.Core.List.{List, []}
+use mathlib.Core.Path.{◌≡◌, ap, sym, ◌∙◌, subst}
 use lib.ListN.{length}
 use borrow.Author.Tests.{le-leb, lt-leb, lt-ltb, le-ltb}
 use Rattle.envelope.specs.Refusals.{Gives}
-use Rattle.sender.specs.Queue.{Slot, empty, holds, Queue, queue, Event, submit, ack, nak, time_out, Reply, sent, waits, settles, again, fails, refused, Outcome, outcome, refusal, among, known, placed, next, freed, is_in_flight, left, submitting, acking, naking, answering}
+use Rattle.std.specs.Prelude.{Err}
+use Rattle.sender.specs.Queue.{Slot, empty, holds, Queue, Event, submit, Reply, sent, waits, settles, again, fails, refused, refusal, placed, submitting, acking, naking, answering}
 use Rattle.sender.specs.Refusing.{RefusalKeeps, meets, EventGives, FullFirst, ThenKnown, NotInFlight, StartRefuses, StartTakes}
 use Rattle.sender.specs.Told.{State, queue_of, leaving, Happening, told_answer, state_of, StartAnswer, ready, no_bench, starting, Starts}
-use Rattle.sender.specs.declared.bench.Start.TheVariants.{Refused as StartRefused}
 use Rattle.sender.specs.declared.refusal.Refusal.TheVariants.{TooManyResends}
+use Rattle.sender.proofs.CaseLaws.{Cases, each_case}
 use Rattle.sender.proofs.OnlyLaws.{same_bench, only_starts}
 
 pub refusal_keeps : RefusalKeeps
-refusal_keeps e b entry r exit refusal p a =
+refusal_keeps e b entry r after exit refusal p a =
     let s = state_of entry b in
     let told = ap (λ (h : Happening). h.reply) p in
-    let kept : state_of exit r.bench ≡ s =
+    let kept : state_of exit after ≡ s =
     ap (λ (h : Happening). h.state) p
     ∙ ap (λ (x : Reply). leaving x (answering e (queue_of s)).after s) (sym told ∙ ap told_answer a) in
-    (ap (λ (t : State). t.places) kept, same_bench r.bench b (ap (λ (t : State). t.beside) kept))
+    (ap (λ (t : State). t.places) kept, same_bench after b (ap (λ (t : State). t.beside) kept))
 
 -- ---- which event meets which
 
@@ -33,40 +32,25 @@ GivesIn l again = Unit {0}
 GivesIn l (fails o) = Unit {0}
 GivesIn l (refused r) = Gives l [] r
 
-either_gives : (l : List ℕ) (b : Bool) (o o' : Outcome) → GivesIn l o.reply → GivesIn l o'.reply → GivesIn l (cond b o o').reply
-either_gives l true o o' h h' = h
-either_gives l false o o' h h' = h'
-
 placed_gives : (l : List ℕ) (x n : ℕ) (s : Slot) (ws : List ℕ) → GivesIn l (placed x n s ws).reply
 placed_gives l x n empty ws = tt
 placed_gives l x n (holds y k) ws = tt
 
-submit_gives : (x : ℕ) (q : Queue) → GivesIn (70 ∷ 71 ∷ []) (submitting x q).reply
-unfolding submitting
-submit_gives x q =
-    either_gives (70 ∷ 71 ∷ []) (leb 16 (length q.waiting)) (refusal 70 q) _ refl
-    (either_gives (70 ∷ 71 ∷ []) (among x (known q.slot q.waiting)) (refusal 71 q) _ refl (placed_gives (70 ∷ 71 ∷ []) x q.resends q.slot q.waiting))
-
-ack_gives : (x : ℕ) (q : Queue) → GivesIn (72 ∷ []) (acking x q).reply
-unfolding acking
-ack_gives x q = either_gives (72 ∷ []) (is_in_flight x q.slot) (outcome (settles (next q.waiting)) (freed q.resends q.waiting)) (refusal 72 q) tt refl
-
-nak_gives : (x : ℕ) (q : Queue) → GivesIn (72 ∷ []) (naking x q).reply
-unfolding naking
-nak_gives x q =
-    either_gives (72 ∷ []) (is_in_flight x q.slot) _ (refusal 72 q)
-    (either_gives (72 ∷ []) (eqb (left q.slot) 0) (outcome (fails (next q.waiting)) (freed q.resends q.waiting))
-    (outcome again (queue q.resends (holds x (left q.slot - 1)) q.waiting)) tt tt)
-    refl
+gives_cases : (n : ℕ) (s : Slot) (ws : List ℕ) → Cases n s ws (λ e o. GivesIn (meets e) o.reply)
+gives_cases n s ws =
+    record {
+      refused = λ e k meets. meets;
+      placed = λ x room new. placed_gives (meets (submit x)) x n s ws;
+      settled = λ e here. tt;
+      failed = λ e here none. tt;
+      again = λ e here some. tt;
+    }
 
 reply_gives : (e : Event) (q : Queue) → GivesIn (meets e) (answering e q).reply
-reply_gives (submit x) q = submit_gives x q
-reply_gives (ack x) q = ack_gives x q
-reply_gives (nak x) q = nak_gives x q
-reply_gives (time_out x) q = nak_gives x q
+reply_gives e q = each_case q.resends q.slot q.waiting (λ d o. GivesIn (meets d) o.reply) (gives_cases q.resends q.slot q.waiting) e
 
 pub event_gives : EventGives
-event_gives e b entry r exit refusal p a =
+event_gives e b entry r after exit refusal p a =
     subst (GivesIn (meets e)) (sym (ap (λ (h : Happening). h.reply) p) ∙ ap told_answer a) (reply_gives e (queue_of (state_of entry b)))
 
 -- ---- in order
@@ -83,11 +67,11 @@ pub not_in_flight : NotInFlight
 unfolding acking naking
 not_in_flight x q h = (rw h, rw h, rw h)
 
-start_refused : (n : ℕ) → 10 < n → Starts n (StartRefused TooManyResends)
+start_refused : (n : ℕ) → 10 < n → Starts n (Err TooManyResends)
 start_refused n h = rw (lt-ltb 10 n h)
 
 pub start_refuses : StartRefuses
-start_refuses n r p h = only_starts n r (StartRefused TooManyResends) p (start_refused n h)
+start_refuses n r p h = only_starts n r (Err TooManyResends) p (start_refused n h)
 
 abbrev IsBench : StartAnswer → Type 0
 IsBench (ready b) = Unit {0}

@@ -1,18 +1,19 @@
 -- A COMMID that was settled or failed is free again; a submission more changes no other; and a fate that is over stays.
 -- The last two are laws of reading, about any lines whatever.
-use Prim.Native.Nat.{ℕ, ◌-◌, ◌≤◌, ◌<◌}
+use Prim.Native.Nat.{ℕ, ◌≤◌, ◌<◌}
 use mathlib.Core.Bool.{Bool, true, false, cond, ◌||◌, true≢false}
 use mathlib.Core.List.{List, [], ◌∷◌, ◌++◌}
 use mathlib.Core.Path.{◌≡◌, refl, ap, sym, ◌∙◌, subst}
-use lib.Dec.{eqb, leb}
+use lib.Dec.{eqb}
 use lib.ListN.{length}
 use native.Mathlib.Omega.{arith}
-use borrow.Author.Tests.{lt-leb, eqb-true}
+use borrow.Author.Tests.{lt-leb, eqb-true, clash}
 use Rattle.sender.specs.Accounts.{in_slot}
 use Rattle.sender.specs.History.{Line, line, Fate, waiting, in_flight, acknowledged, failed, commid_of, is_settled_by, is_failed_by, goes_out_by, fate, Submission, submission, accepted, submissions, final}
-use Rattle.sender.specs.Queue.{Slot, empty, holds, Queue, queue, empty_bench, Event, submit, ack, nak, time_out, Reply, sent, waits, settles, again, fails, refused, Outcome, outcome, refusal, among, known, placed, next, freed, is_in_flight, left, submitting, acking, naking, answering}
+use Rattle.sender.specs.Queue.{Slot, empty, holds, Queue, queue, empty_bench, Event, submit, Reply, sent, waits, settles, again, fails, refused, Outcome, among, known, placed, freed, submitting, answering}
 use Rattle.sender.specs.Reuse.{accepts, ends, UsableAtOnce, UsableLater, fate_at_first, IsNew, is_over, AllStay, FatesStay}
 use Rattle.sender.proofs.AccountLaws.{accounts}
+use Rattle.sender.proofs.CaseLaws.{Cases, each_case}
 use Rattle.sender.proofs.BoundLaws.{never_more}
 use Rattle.sender.proofs.StandingLaws.{Distinct, Good, fine}
 use Rattle.sender.proofs.AmongLaws.{among_nil}
@@ -38,41 +39,30 @@ freed_accepts n y (w ∷ ws) x d h p =
 abbrev Usable : Event → Outcome → Type 0
 Usable e o = ends o.reply ≡ true → accepts (answering (submit (commid_of e)) o.after).reply ≡ true
 
-refused_usable : (e : Event) (k : ℕ) (q : Queue) → Usable e (refusal k q)
-refused_usable e k q h = absurd (true≢false (sym h))
-
 placed_usable : (e : Event) (x n : ℕ) (s : Slot) (ws : List ℕ) → Usable e (placed x n s ws)
-placed_usable e x n empty ws h = absurd (true≢false (sym h))
-placed_usable e x n (holds y k) ws h = absurd (true≢false (sym h))
+placed_usable e x n empty ws h = absurd (clash h)
+placed_usable e x n (holds y k) ws h = absurd (clash h)
 
-submit_usable : (e : Event) (n : ℕ) (s : Slot) (ws : List ℕ) (x : ℕ) (b c : Bool)
-    → Usable e (cond b (refusal 70 (queue n s ws)) (cond c (refusal 71 (queue n s ws)) (placed x n s ws)))
-submit_usable e n s ws x true c = refused_usable e 70 (queue n s ws)
-submit_usable e n s ws x false true = refused_usable e 71 (queue n s ws)
-submit_usable e n s ws x false false = placed_usable e x n s ws
-
-ack_usable : (n : ℕ) (s : Slot) (ws : List ℕ) → Good s ws → length ws ≤ 16 → (e : Event) (b : Bool) → is_in_flight (commid_of e) s ≡ b
-    → Usable e (cond b (outcome (settles (next ws)) (freed n ws)) (refusal 72 (queue n s ws)))
-ack_usable n empty ws g l e true p = absurd (true≢false (sym p))
-ack_usable n empty ws g l e false p = refused_usable e 72 (queue n empty ws)
-ack_usable n (holds y k) ws g l e true p = λ h. freed_accepts n y ws (commid_of e) g l (eqb-true (commid_of e) y p)
-ack_usable n (holds y k) ws g l e false p = refused_usable e 72 (queue n (holds y k) ws)
-
-nak_usable : (n : ℕ) (s : Slot) (ws : List ℕ) → Good s ws → length ws ≤ 16 → (e : Event) (b c : Bool) → is_in_flight (commid_of e) s ≡ b
-    → Usable e
-    (cond b (cond c (outcome (fails (next ws)) (freed n ws)) (outcome again (queue n (holds (commid_of e) (left s - 1)) ws))) (refusal 72 (queue n s ws)))
-nak_usable n empty ws g l e true c p = absurd (true≢false (sym p))
-nak_usable n empty ws g l e false c p = refused_usable e 72 (queue n empty ws)
-nak_usable n (holds y k) ws g l e true true p = λ h. freed_accepts n y ws (commid_of e) g l (eqb-true (commid_of e) y p)
-nak_usable n (holds y k) ws g l e true false p = λ h. absurd (true≢false (sym h))
-nak_usable n (holds y k) ws g l e false c p = refused_usable e 72 (queue n (holds y k) ws)
+usable_cases : (n : ℕ) (s : Slot) (ws : List ℕ) → Good s ws → length ws ≤ 16 → Cases n s ws Usable
+usable_cases n empty ws g l =
+    record {
+      refused = λ e k meets h. absurd (clash h);
+      placed = λ x room new. placed_usable (submit x) x n empty ws;
+      settled = λ e here. absurd (clash here);
+      failed = λ e here none. absurd (clash here);
+      again = λ e here some. absurd (clash here);
+    }
+usable_cases n (holds y k) ws g l =
+    record {
+      refused = λ e k' meets h. absurd (clash h);
+      placed = λ x room new. placed_usable (submit x) x n (holds y k) ws;
+      settled = λ e here h. freed_accepts n y ws (commid_of e) g l (eqb-true (commid_of e) y here);
+      failed = λ e here none h. freed_accepts n y ws (commid_of e) g l (eqb-true (commid_of e) y here);
+      again = λ e here some h. absurd (clash h);
+    }
 
 usable : (n : ℕ) (s : Slot) (ws : List ℕ) → Good s ws → length ws ≤ 16 → (e : Event) → Usable e (answering e (queue n s ws))
-unfolding submitting acking naking
-usable n s ws g l (submit x) = submit_usable (submit x) n s ws x (leb 16 (length ws)) (among x (known s ws))
-usable n s ws g l (ack x) = ack_usable n s ws g l (ack x) (is_in_flight x s) refl
-usable n s ws g l (nak x) = nak_usable n s ws g l (nak x) (is_in_flight x s) (eqb (left s) 0) refl
-usable n s ws g l (time_out x) = nak_usable n s ws g l (time_out x) (is_in_flight x s) (eqb (left s) 0) refl
+usable n s ws g l e = each_case n s ws Usable (usable_cases n s ws g l) e
 
 good_at_end : (n : ℕ) (s : Slot) (ws : List ℕ) → Good s ws → (es : List Event) → Good (final (queue n s ws) es).slot (final (queue n s ws) es).waiting
 unfolding final

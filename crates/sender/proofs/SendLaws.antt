@@ -4,15 +4,15 @@ use Prim.Native.Nat.{ℕ, suc, ◌-◌, ◌≤◌}
 use mathlib.Core.Path.{◌≡◌, refl, ap, sym, ◌∙◌, subst}
 use mathlib.Core.List.{List, [], ◌∷◌, ◌++◌}
 use mathlib.Core.Option.{Option}
-use mathlib.Core.Bool.{Bool, true, false, cond, true≢false}
-use lib.ListN.{length}
-use lib.Dec.{leb, eqb}
+use mathlib.Core.Bool.{Bool, true, false, cond}
+use lib.Dec.{eqb}
 use native.Mathlib.Omega.{arith}
-use borrow.Author.Tests.{eq-eqb, eqb-true, eqb-false}
+use borrow.Author.Tests.{eq-eqb, eqb-true, clash}
 use Rattle.envelope.specs.Refusals.{plainly}
-use Rattle.sender.specs.Queue.{Slot, empty, holds, queue, Outcome, outcome, refusal, Event, submit, ack, nak, time_out, waits, settles, fails, again, refused, among, known, is_in_flight, left, placed, next, freed, submitting, acking, naking, answering}
+use Rattle.sender.specs.Queue.{Slot, empty, holds, queue, Outcome, outcome, refusal, Event, submit, waits, settles, fails, again, refused, among, placed, next, freed, answering}
 use Rattle.sender.specs.History.{Line, line, Fate, waiting, in_flight, acknowledged, failed, commid_of, is_next, fate, history}
 use Rattle.sender.specs.Sends.{sends, SentSoOften, AllSent, SendsAreCounted}
+use Rattle.sender.proofs.CaseLaws.{Cases, each_case}
 use Rattle.sender.proofs.StandingLaws.{Distinct, Good, eqb_swap, apart, settled_other, failed_other, settled_own, failed_own, fine}
 
 -- of the one in flight, with k resends left
@@ -221,34 +221,26 @@ again_keeps n y k x ws d e p q z =
     }
 
 -- the events
-submit_cases : (n : ℕ) (s : Slot) (ws : List ℕ) → Good s ws → (x : ℕ) (b c : Bool)
-    → Keeps n s ws (submit x) (cond b (refusal 70 (queue n s ws)) (cond c (refusal 71 (queue n s ws)) (placed x n s ws)))
-submit_cases n s ws g x true c = refused_keeps n s ws (submit x) 70
-submit_cases n s ws g x false true = refused_keeps n s ws (submit x) 71
-submit_cases n s ws g x false false = placed_keeps n s ws g x
-
-ack_cases : (n : ℕ) (s : Slot) (ws : List ℕ) → Good s ws → (e : Event) (b : Bool) → is_in_flight (commid_of e) s ≡ b
-    → Keeps n s ws e (cond b (outcome (settles (next ws)) (freed n ws)) (refusal 72 (queue n s ws)))
-ack_cases n empty ws g e true p = absurd (true≢false (sym p))
-ack_cases n empty ws g e false p = refused_keeps n empty ws e 72
-ack_cases n (holds y k) ws g e true p = settled_keeps n y k ws g e (eqb-true (commid_of e) y p)
-ack_cases n (holds y k) ws g e false p = refused_keeps n (holds y k) ws e 72
-
-nak_cases : (n : ℕ) (s : Slot) (ws : List ℕ) → Good s ws → (e : Event) (b c : Bool) → is_in_flight (commid_of e) s ≡ b → eqb (left s) 0 ≡ c
-    → Keeps n s ws e
-    (cond b (cond c (outcome (fails (next ws)) (freed n ws)) (outcome again (queue n (holds (commid_of e) (left s - 1)) ws))) (refusal 72 (queue n s ws)))
-nak_cases n empty ws g e true c p q = absurd (true≢false (sym p))
-nak_cases n empty ws g e false c p q = refused_keeps n empty ws e 72
-nak_cases n (holds y k) ws g e true true p q = failed_keeps n y k ws g e (eqb-true (commid_of e) y p) (eqb-true k 0 q)
-nak_cases n (holds y k) ws g e true false p q = again_keeps n y k (commid_of e) ws g e (eqb-true (commid_of e) y p) refl (eqb-false k 0 q)
-nak_cases n (holds y k) ws g e false c p q = refused_keeps n (holds y k) ws e 72
+keep_cases : (n : ℕ) (s : Slot) (ws : List ℕ) → Good s ws → Cases n s ws (Keeps n s ws)
+keep_cases n empty ws g =
+    record {
+      refused = λ e k meets. refused_keeps n empty ws e k;
+      placed = λ x room new. placed_keeps n empty ws g x;
+      settled = λ e here. absurd (clash here);
+      failed = λ e here none. absurd (clash here);
+      again = λ e here some. absurd (clash here);
+    }
+keep_cases n (holds y k) ws g =
+    record {
+      refused = λ e k' meets. refused_keeps n (holds y k) ws e k';
+      placed = λ x room new. placed_keeps n (holds y k) ws g x;
+      settled = λ e here. settled_keeps n y k ws g e (eqb-true (commid_of e) y here);
+      failed = λ e here none. failed_keeps n y k ws g e (eqb-true (commid_of e) y here) none;
+      again = λ e here some. again_keeps n y k (commid_of e) ws g e (eqb-true (commid_of e) y here) refl some;
+    }
 
 keeps : (n : ℕ) (s : Slot) (ws : List ℕ) → Good s ws → (e : Event) → Keeps n s ws e (answering e (queue n s ws))
-unfolding submitting acking naking
-keeps n s ws g (submit x) = submit_cases n s ws g x (leb 16 (length ws)) (among x (known s ws))
-keeps n s ws g (ack x) = ack_cases n s ws g (ack x) (is_in_flight x s) refl
-keeps n s ws g (nak x) = nak_cases n s ws g (nak x) (is_in_flight x s) (eqb (left s) 0) refl refl
-keeps n s ws g (time_out x) = nak_cases n s ws g (time_out x) (is_in_flight x s) (eqb (left s) 0) refl refl
+keeps n s ws g e = each_case n s ws (Keeps n s ws) (keep_cases n s ws g) e
 
 -- before any event
 line_new : (n : ℕ) (ws : List ℕ) → InLine n ws []

@@ -4,15 +4,15 @@ use Prim.Native.Nat.{ℕ, ◌-◌}
 use mathlib.Core.Path.{◌≡◌, refl, ap, sym, ◌∙◌}
 use mathlib.Core.List.{List, [], ◌∷◌, ◌++◌, append_assoc}
 use mathlib.Core.Option.{Option}
-use mathlib.Core.Bool.{Bool, true, false, cond, true≢false}
-use lib.ListN.{length}
-use lib.Dec.{leb, eqb}
+use mathlib.Core.Bool.{Bool, true, false}
+use lib.Dec.{eqb}
 use native.Mathlib.Omega.{arith}
-use borrow.Author.Tests.{eq-eqb, ne_eqb, eqb-true, eqb-false}
+use borrow.Author.Tests.{eq-eqb, ne_eqb, eqb-true, eqb-false, clash}
 use Rattle.envelope.specs.Refusals.{plainly}
-use Rattle.sender.specs.Queue.{Slot, empty, holds, queue, Outcome, outcome, refusal, Event, submit, ack, nak, time_out, Reply, sent, waits, settles, fails, again, refused, among, known, is_in_flight, left, placed, next, freed, submitting, acking, naking, answering}
+use Rattle.sender.specs.Queue.{Slot, empty, holds, queue, Outcome, outcome, refusal, Event, submit, Reply, sent, waits, settles, fails, again, refused, among, known, placed, next, freed, answering}
 use Rattle.sender.specs.History.{Line, line, acknowledged, failed, Submission, submission, commid_of, is_next, fate, submissions}
 use Rattle.envelope.proofs.BoolLaws.{neither}
+use Rattle.sender.proofs.CaseLaws.{Cases, each_case}
 use Rattle.sender.proofs.AmongLaws.{among_nil}
 
 abbrev pub Distinct : List ℕ → Type 0
@@ -111,16 +111,6 @@ placed_fine n (holds y k) ws g x a =
           ∙ ap (λ (ms : List Submission). ms ++ submissions ls) (sym (olds_end ws x ls)));
     }
 
-submit_cases : (n : ℕ) (s : Slot) (ws : List ℕ) → Good s ws → (x : ℕ) (b c : Bool) → among x (known s ws) ≡ c
-    → Fine n s ws (submit x) (cond b (refusal 70 (queue n s ws)) (cond c (refusal 71 (queue n s ws)) (placed x n s ws)))
-submit_cases n s ws g x true c e = refused_fine n s ws g (submit x) 70
-submit_cases n s ws g x false true e = refused_fine n s ws g (submit x) 71
-submit_cases n s ws g x false false e = placed_fine n s ws g x e
-
-submit_fine : (n : ℕ) (s : Slot) (ws : List ℕ) → Good s ws → (x : ℕ) → Fine n s ws (submit x) (submitting x (queue n s ws))
-unfolding submitting
-submit_fine n s ws g x = submit_cases n s ws g x (leb 16 (length ws)) (among x (known s ws)) refl
-
 -- The submission in flight ends, and the oldest that waits goes out. `l` is the line that says so.
 others_same : (y w : ℕ) (ws : List ℕ) (l : Line) (ls : List Line) → among y ws ≡ false → among w ws ≡ false
     → ((v : ℕ) → eqb v y ≡ false → eqb v w ≡ false → fate v false (l ∷ ls) ≡ fate v false ls) → olds ws (l ∷ ls) ≡ olds ws ls
@@ -205,36 +195,23 @@ again_fine n y k j x ws d e p =
       same = λ ls. λ i. submission (sym p i) (fate (sym p i) true ls) ∷ (olds_same ws (line e again) ls (λ v. refl) i ++ submissions ls);
     }
 
-ack_cases : (n : ℕ) (s : Slot) (ws : List ℕ) → Good s ws → (e : Event) (b : Bool) → is_in_flight (commid_of e) s ≡ b
-    → Fine n s ws e (cond b (outcome (settles (next ws)) (freed n ws)) (refusal 72 (queue n s ws)))
-ack_cases n empty ws g e true p = let z : true ≡ false = sym p in absurd (true≢false z)
-ack_cases n empty ws g e false p = refused_fine n empty ws g e 72
-ack_cases n (holds y k) ws g e true p = settled_fine n y k ws g e (eqb-true (commid_of e) y p)
-ack_cases n (holds y k) ws g e false p = refused_fine n (holds y k) ws g e 72
-
-ack_fine : (n : ℕ) (s : Slot) (ws : List ℕ) → Good s ws → (x : ℕ) → Fine n s ws (ack x) (acking x (queue n s ws))
-unfolding acking
-ack_fine n s ws g x = ack_cases n s ws g (ack x) (is_in_flight x s) refl
-
-nak_cases : (n : ℕ) (s : Slot) (ws : List ℕ) → Good s ws → (e : Event) (b c : Bool) → is_in_flight (commid_of e) s ≡ b
-    → Fine n s ws e
-    (cond b (cond c (outcome (fails (next ws)) (freed n ws)) (outcome again (queue n (holds (commid_of e) (left s - 1)) ws))) (refusal 72 (queue n s ws)))
-nak_cases n empty ws g e true c p = let z : true ≡ false = sym p in absurd (true≢false z)
-nak_cases n empty ws g e false c p = refused_fine n empty ws g e 72
-nak_cases n (holds y k) ws g e true true p = failed_fine n y k ws g e (eqb-true (commid_of e) y p)
-nak_cases n (holds y k) ws g e true false p = again_fine n y k (k - 1) (commid_of e) ws g e (eqb-true (commid_of e) y p)
-nak_cases n (holds y k) ws g e false c p = refused_fine n (holds y k) ws g e 72
-
-nak_fine : (n : ℕ) (s : Slot) (ws : List ℕ) → Good s ws → (x : ℕ) → Fine n s ws (nak x) (naking x (queue n s ws))
-unfolding naking
-nak_fine n s ws g x = nak_cases n s ws g (nak x) (is_in_flight x s) (eqb (left s) 0) refl
-
-time_out_fine : (n : ℕ) (s : Slot) (ws : List ℕ) → Good s ws → (x : ℕ) → Fine n s ws (time_out x) (naking x (queue n s ws))
-unfolding naking
-time_out_fine n s ws g x = nak_cases n s ws g (time_out x) (is_in_flight x s) (eqb (left s) 0) refl
+fine_cases : (n : ℕ) (s : Slot) (ws : List ℕ) → Good s ws → Cases n s ws (Fine n s ws)
+fine_cases n empty ws g =
+    record {
+      refused = λ e k meets. refused_fine n empty ws g e k;
+      placed = λ x room new. placed_fine n empty ws g x new;
+      settled = λ e here. absurd (clash here);
+      failed = λ e here none. absurd (clash here);
+      again = λ e here some. absurd (clash here);
+    }
+fine_cases n (holds y k) ws g =
+    record {
+      refused = λ e k' meets. refused_fine n (holds y k) ws g e k';
+      placed = λ x room new. placed_fine n (holds y k) ws g x new;
+      settled = λ e here. settled_fine n y k ws g e (eqb-true (commid_of e) y here);
+      failed = λ e here none. failed_fine n y k ws g e (eqb-true (commid_of e) y here);
+      again = λ e here some. again_fine n y k (k - 1) (commid_of e) ws g e (eqb-true (commid_of e) y here);
+    }
 
 pub fine : (n : ℕ) (s : Slot) (ws : List ℕ) → Good s ws → (e : Event) → Fine n s ws e (answering e (queue n s ws))
-fine n s ws g (submit x) = submit_fine n s ws g x
-fine n s ws g (ack x) = ack_fine n s ws g x
-fine n s ws g (nak x) = nak_fine n s ws g x
-fine n s ws g (time_out x) = time_out_fine n s ws g x
+fine n s ws g e = each_case n s ws (Fine n s ws) (fine_cases n s ws g) e

@@ -1,21 +1,18 @@
 -- Refusals change nothing, and which event can meet which, in order. RULES 13.
 -- Proofs in proofs/RefusingLaws.
-use Rattle.std.specs.Prelude.{ℕ, ◌≤◌, ◌<◌, true, false, List, [], ◌∷◌, ◌≡◌, length}
+use Rattle.std.specs.Prelude.{ℕ, ◌≤◌, ◌<◌, true, false, List, [], ◌∷◌, ◌≡◌, length, Result, Err}
 use Rattle.envelope.specs.Refusals.{plainly, Gives}
 use Rattle.sender.specs.Queue.{most_waiting, Queue, Event, submit, ack, nak, time_out, refused, among, known, is_in_flight, answering}
 use Rattle.sender.specs.Told.{most_resends, told_sender_refusal, Starts, Answers}
-use Rattle.sender.specs.declared.bench.Answer.TheVariants.{Refused as AnswerRefused}
+use Rattle.sender.specs.declared.bench.Answer.{Answer}
 use Rattle.sender.specs.declared.bench.Bench.{Bench}
-use Rattle.sender.specs.declared.bench.Start.{Start}
-use Rattle.sender.specs.declared.bench.Start.TheVariants.{Refused as StartRefused}
-use Rattle.sender.specs.declared.bench.Step.{Step}
 use Rattle.sender.specs.declared.refusal.Refusal.{Refusal}
 use Rattle.sender.specs.declared.refusal.Refusal.TheVariants.{TooManyResends}
 
 -- a refusal leaves the places and what stands beside them as they were, whatever they held
 abbrev pub RefusalKeeps : Type 0
-RefusalKeeps = (e : Event) (b : Bench) (entry : List ℕ) (r : Step) (exit : List ℕ) (refusal : Refusal) → Answers e b entry r exit → r.answer ≡ AnswerRefused refusal
-    → (exit ≡ entry) × (r.bench ≡ b)
+RefusalKeeps = (e : Event) (b : Bench) (entry : List ℕ) (r : Result Answer Refusal) (after : Bench) (exit : List ℕ) (refusal : Refusal)
+    → Answers e b entry r after exit → r ≡ Err refusal → (exit ≡ entry) × (after ≡ b)
 
 -- a submission meets 70 and 71, any other event 72, and none of them 73
 abbrev pub meets : Event → List ℕ
@@ -25,8 +22,8 @@ meets (nak x) = 72 ∷ []
 meets (time_out x) = 72 ∷ []
 
 abbrev pub EventGives : Type 0
-EventGives = (e : Event) (b : Bench) (entry : List ℕ) (r : Step) (exit : List ℕ) (refusal : Refusal) → Answers e b entry r exit → r.answer ≡ AnswerRefused refusal
-    → Gives (meets e) [] (told_sender_refusal refusal)
+EventGives = (e : Event) (b : Bench) (entry : List ℕ) (r : Result Answer Refusal) (after : Bench) (exit : List ℕ) (refusal : Refusal)
+    → Answers e b entry r after exit → r ≡ Err refusal → Gives (meets e) [] (told_sender_refusal refusal)
 
 -- 70 where 16 wait, whatever the COMMID; 71 where fewer do and it is in flight or waits; 72 where it is not in flight
 abbrev pub FullFirst : Type 0
@@ -41,7 +38,7 @@ NotInFlight = (x : ℕ) (q : Queue) → is_in_flight x q.slot ≡ false
 
 -- 73 where more than 10 resends are asked for, and a bench wherever not
 abbrev pub StartRefuses : Type 0
-StartRefuses = (n : ℕ) (r : Start) → Starts n r → most_resends < n → r ≡ StartRefused TooManyResends
+StartRefuses = (n : ℕ) (r : Result Bench Refusal) → Starts n r → most_resends < n → r ≡ Err TooManyResends
 
 abbrev pub StartTakes : Type 0
-StartTakes = (n : ℕ) (refusal : Refusal) → n ≤ most_resends → Starts n (StartRefused refusal) → ⊥
+StartTakes = (n : ℕ) (refusal : Refusal) → n ≤ most_resends → Starts n (Err refusal) → ⊥

@@ -1,20 +1,15 @@
 -- The paper's number and values for each case of the code's types, the queue that a state stands for, and what each public function promises.
 -- A state is lent in parts, the places and what stands beside them. Any numbers in them are the state of some queue.
-use Rattle.std.specs.Prelude.{ℕ, ◌-◌, ◌≤◌, cond, List, ◌++◌, ◌≡◌, ltb, length, take, replicate}
-use Rattle.std.proofs.Math.Option.{Option, none, some}
+use Rattle.std.specs.Prelude.{ℕ, ◌-◌, ◌≤◌, cond, List, ◌++◌, ◌≡◌, ltb, length, take, replicate, Option, Some, None, Result, Ok, Err}
+use Rattle.std.proofs.Math.Option.{none, some}
+use Rattle.std.proofs.Math.Option as paper
 use Rattle.envelope.specs.Refusals.{Refused, plainly, TellsNumbers}
 use Rattle.envelope.specs.declared.refusals.Numbers.{Numbers}
 use Rattle.sender.specs.Queue.{most_waiting, Slot, empty, holds, Queue, queue, Event, Reply, sent, waits, settles, again, fails, refused, answering}
 use Rattle.sender.specs.declared.bench.Answer.{Answer}
-use Rattle.sender.specs.declared.bench.Answer.TheVariants.{Sent, Waits, Settled, Again, Failed, Refused as AnswerRefused}
+use Rattle.sender.specs.declared.bench.Answer.TheVariants.{Sent, Waits, Settled, Again, Failed}
 use Rattle.sender.specs.declared.bench.Bench.{Bench}
 use Rattle.sender.specs.declared.bench.Flight.{Flight}
-use Rattle.sender.specs.declared.bench.Flight.TheVariants.{Idle, Busy}
-use Rattle.sender.specs.declared.bench.Next.{Next}
-use Rattle.sender.specs.declared.bench.Next.TheVariants.{Nothing, Goes}
-use Rattle.sender.specs.declared.bench.Start.{Start}
-use Rattle.sender.specs.declared.bench.Start.TheVariants.{Ready, Refused as StartRefused}
-use Rattle.sender.specs.declared.bench.Step.{Step}
 use Rattle.sender.specs.declared.refusal.Refusal.{Refusal}
 use Rattle.sender.specs.declared.refusal.Refusal.TheVariants.{Full, Known, NotInFlight, TooManyResends}
 
@@ -26,7 +21,7 @@ told_sender_refusal Known = plainly 71
 told_sender_refusal NotInFlight = plainly 72
 told_sender_refusal TooManyResends = plainly 73
 
--- what `Refusal::numbers` promises
+-- what `Numbers::from` promises of a refusal
 abbrev pub NumbersSenderRefusal : Refusal → Numbers → Type 0
 NumbersSenderRefusal refusal r = TellsNumbers (told_sender_refusal refusal) r
 
@@ -75,21 +70,21 @@ abbrev pub happening : Event → State → Happening
 happening e s =
     record { reply = (answering e (queue_of s)).reply; state = leaving (answering e (queue_of s)).reply (answering e (queue_of s)).after s }
 
-abbrev pub told_flight : Flight → Slot
-told_flight Idle = empty
-told_flight (Busy x k) = holds x k
+abbrev pub told_flight : Option Flight → Slot
+told_flight None = empty
+told_flight (Some f) = holds f.commid f.left
 
-abbrev pub told_next : Next → Option ℕ
-told_next Nothing = none
-told_next (Goes x) = some x
+abbrev pub told_next : Option ℕ → paper.Option ℕ
+told_next None = none
+told_next (Some x) = some x
 
-abbrev pub told_answer : Answer → Reply
-told_answer Sent = sent
-told_answer Waits = waits
-told_answer (Settled n) = settles (told_next n)
-told_answer Again = again
-told_answer (Failed n) = fails (told_next n)
-told_answer (AnswerRefused f) = refused (told_sender_refusal f)
+abbrev pub told_answer : Result Answer Refusal → Reply
+told_answer (Ok Sent) = sent
+told_answer (Ok Waits) = waits
+told_answer (Ok (Settled n)) = settles (told_next n)
+told_answer (Ok Again) = again
+told_answer (Ok (Failed n)) = fails (told_next n)
+told_answer (Err f) = refused (told_sender_refusal f)
 
 abbrev pub told_bench : Bench → Beside
 told_bench b = beside b.resends (told_flight b.flight) b.count
@@ -97,12 +92,12 @@ told_bench b = beside b.resends (told_flight b.flight) b.count
 abbrev pub state_of : List ℕ → Bench → State
 state_of places b = record { places = places; beside = told_bench b }
 
-abbrev pub told_step : Step → List ℕ → Happening
-told_step r places = record { reply = told_answer r.answer; state = state_of places r.bench }
+abbrev pub told_step : Result Answer Refusal → Bench → List ℕ → Happening
+told_step r b places = record { reply = told_answer r; state = state_of places b }
 
 -- what `Bench::submit`, `Bench::ack`, `Bench::nak` and `Bench::time_out` promise, each for its event
-abbrev pub Answers : Event → Bench → List ℕ → Step → List ℕ → Type 0
-Answers e b entry r exit = told_step r exit ≡ happening e (state_of entry b)
+abbrev pub Answers : Event → Bench → List ℕ → Result Answer Refusal → Bench → List ℕ → Type 0
+Answers e b entry r after exit = told_step r after exit ≡ happening e (state_of entry b)
 
 -- what `Bench::waiting` promises: how many wait, which is never more than 16
 abbrev pub CountsWaiting : Bench → List ℕ → ℕ → Type 0
@@ -120,10 +115,10 @@ pub data StartAnswer : Type 0 where
 abbrev pub starting : ℕ → StartAnswer
 starting n = cond (ltb most_resends n) (no_bench (plainly 73)) (ready (beside n empty 0))
 
-abbrev pub told_start : Start → StartAnswer
-told_start (Ready b) = ready (told_bench b)
-told_start (StartRefused f) = no_bench (told_sender_refusal f)
+abbrev pub told_start : Result Bench Refusal → StartAnswer
+told_start (Ok b) = ready (told_bench b)
+told_start (Err f) = no_bench (told_sender_refusal f)
 
 -- what `Bench::new` promises
-abbrev pub Starts : ℕ → Start → Type 0
+abbrev pub Starts : ℕ → Result Bench Refusal → Type 0
 Starts n r = told_start r ≡ starting n

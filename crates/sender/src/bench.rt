@@ -1,59 +1,40 @@
 // The send side of the bench: what waits, what is in flight, and what each event answers.
 // The places of those that wait are lent; what stands beside them is the Bench. Any content of the two is the state of some queue.
-ghost use Rattle.std.specs.Prelude.{◌≡◌, ◌<◌};
-ghost use Rattle.sender.specs.Helpers.{Accepts, Frees, Refuses};
-ghost use Rattle.sender.specs.Queue.{most_waiting, is_in_flight, left, submit, ack, nak, time_out};
+ghost use Rattle.std.specs.Prelude.{◌≡◌, ◌<◌, ◌≤◌, take};
+ghost use Rattle.sender.specs.Helpers.{Accepts, FindsFlight, Frees};
+ghost use Rattle.sender.specs.Queue.{most_waiting, among, known, submit, ack, nak, time_out};
 ghost use Rattle.sender.specs.Told.{told_flight, Starts, Answers, CountsWaiting};
 
-use crate::places::{in_places, read, store, store_with, waits_among};
+use crate::places::{in_places, store, store_with};
 use crate::refusal::Refusal;
 
-// The one slot: the COMMID in flight, and how many resends it has left.
+// What is in flight, and how many resends it has left.
 #[derive(Clone, Copy)]
-pub enum Flight {
-    Idle,
-    Busy { commid: u32, left: u8 },
+pub struct Flight {
+    pub commid: u32,
+    pub left: u8,
 }
 
-// What stands beside the places. Those that wait are in the first `count` of them, oldest first.
+// What stands beside the places. Those that wait are in the first `count` of them, oldest first; at most one is in flight.
+// It has no invariant and does not hold the places: C lends the two apart, and `AnswersForC` answers for any numbers in them.
 #[derive(Clone, Copy)]
 pub struct Bench {
     pub resends: u8,
-    pub flight: Flight,
+    pub flight: Option<Flight>,
     pub count: usize,
 }
 
-// After a refusal there is no bench.
-#[derive(Clone, Copy)]
-pub enum Start {
-    Ready(Bench),
-    Refused(Refusal),
-}
-
-// Which message goes out because the slot fell free.
-#[derive(Clone, Copy)]
-pub enum Next {
-    Nothing,
-    Goes(u32),
-}
-
+// `Settled` and `Failed` have the COMMID that goes out because the slot fell free, where one waits.
 #[derive(Clone, Copy)]
 pub enum Answer {
     // to a submission
     Sent,
     Waits,
     // to an ACK
-    Settled(Next),
+    Settled(Option<u32>),
     // to a NAK or a time-out
     Again,
-    Failed(Next),
-    Refused(Refusal),
-}
-
-#[derive(Clone, Copy)]
-pub struct Step {
-    pub answer: Answer,
-    pub bench: Bench,
+    Failed(Option<u32>),
 }
 
 impl Bench {
@@ -64,93 +45,79 @@ impl Bench {
     pub const MOST_RESENDS: u64 = 10;
 
     // An empty bench. The places may hold anything, for none of them counts yet.
-    pub fn new(resends: u64) -> Start
+    pub fn new(resends: u64) -> Result<Bench, Refusal>
         ensures { Starts resends result }
     {
         if Bench::MOST_RESENDS < resends {
-            return Start::Refused(Refusal::TooManyResends);
+            return Err(Refusal::TooManyResends);
         }
-        Start::Ready(Bench {
+        Ok(Bench {
             resends: resends as u8,
-            flight: Flight::Idle,
+            flight: None,
             count: 0,
         })
     }
 
     // A message is handed in: it goes out if nothing is in flight, else it waits.
-    pub fn submit(self, waiting: &mut [u32; Bench::PLACES], commid: u32) -> Step
-        ensures { Answers (submit commid) self waiting.old result waiting.new }
+    #[tactic(auto, unfolding(crate::specs::Queue::submitting))]
+    pub fn submit(
+        &mut self,
+        waiting: &mut [u32; Bench::PLACES],
+        commid: u32,
+    ) -> Result<Answer, Refusal>
+        ensures { Answers (submit commid) self.old waiting.old result self.new waiting.new }
     {
-        let flight = self.flight;
-        let count = self.count;
-        let places = read(waiting);
-        if Bench::PLACES <= count {
-            return refuse(self, Refusal::Full);
+        if Bench::PLACES <= self.count {
+            return Err(Refusal::Full);
         }
-        if is_in_flight(flight, commid) {
-            return refuse(self, Refusal::Known);
+        if self.knows(waiting, commid) {
+            return Err(Refusal::Known);
         }
-        if waits_among(commid, &places[..count]) {
-            return refuse(self, Refusal::Known);
-        }
-        accept(self, waiting, commid)
+        Ok(self.accept(waiting, commid))
     }
 
     // The one in flight is acknowledged.
-    pub fn ack(self, waiting: &mut [u32; Bench::PLACES], commid: u32) -> Step
-        ensures { Answers (ack commid) self waiting.old result waiting.new }
+    #[tactic(auto, unfolding(crate::specs::Queue::acking))]
+    pub fn ack(
+        &mut self,
+        waiting: &mut [u32; Bench::PLACES],
+        commid: u32,
+    ) -> Result<Answer, Refusal>
+        ensures { Answers (ack commid) self.old waiting.old result self.new waiting.new }
     {
-        let flight = self.flight;
-        if is_in_flight(flight, commid) {
-            let freed = release(self, waiting);
-            let next = freed.next;
-            let bench = freed.bench;
-            return Step {
-                answer: Answer::Settled(next),
-                bench,
-            };
-        }
-        refuse(self, Refusal::NotInFlight)
+        self.in_flight(commid).ok_or(Refusal::NotInFlight)?;
+        Ok(Answer::Settled(self.release(waiting)))
     }
 
     // The one in flight goes again while it has a resend left, and then it fails.
-    pub fn nak(self, waiting: &mut [u32; Bench::PLACES], commid: u32) -> Step
-        ensures { Answers (nak commid) self waiting.old result waiting.new }
+    #[tactic(auto, unfolding(crate::specs::Queue::naking))]
+    pub fn nak(
+        &mut self,
+        waiting: &mut [u32; Bench::PLACES],
+        commid: u32,
+    ) -> Result<Answer, Refusal>
+        ensures { Answers (nak commid) self.old waiting.old result self.new waiting.new }
     {
-        let resends = self.resends;
-        let flight = self.flight;
-        if is_in_flight(flight, commid) {
-            let left = resends_left(flight);
-            if left == 0 {
-                let freed = release(self, waiting);
-                let next = freed.next;
-                let bench = freed.bench;
-                return Step {
-                    answer: Answer::Failed(next),
-                    bench,
-                };
-            }
-            let count = in_places(self.count);
-            let places = read(waiting);
-            *waiting = store(&places[..count]);
-            return Step {
-                answer: Answer::Again,
-                bench: Bench {
-                    resends,
-                    flight: Flight::Busy {
-                        commid,
-                        left: left - 1,
-                    },
-                    count,
-                },
-            };
+        let flight = self.in_flight(commid).ok_or(Refusal::NotInFlight)?;
+        if flight.left == 0 {
+            return Ok(Answer::Failed(self.release(waiting)));
         }
-        refuse(self, Refusal::NotInFlight)
+        self.flight = Some(Flight {
+            commid,
+            left: flight.left - 1,
+        });
+        self.count = in_places(self.count);
+        *waiting = store(&waiting[..self.count]);
+        Ok(Answer::Again)
     }
 
     // The bench treats a time-out as a NAK.
-    pub fn time_out(self, waiting: &mut [u32; Bench::PLACES], commid: u32) -> Step
-        ensures { Answers (time_out commid) self waiting.old result waiting.new }
+    pub fn time_out(
+        &mut self,
+        waiting: &mut [u32; Bench::PLACES],
+        commid: u32,
+    ) -> Result<Answer, Refusal>
+        ensures { Answers (time_out commid) self.old waiting.old result self.new waiting.new }
     {
         self.nak(waiting, commid)
     }
@@ -159,116 +126,61 @@ impl Bench {
     pub fn waiting(self, waiting: &[u32; Bench::PLACES]) -> usize
         ensures { CountsWaiting self waiting.now result }
     {
-        let count = in_places(self.count);
         // by a length, so that the answer is one for any places
-        let places = read(waiting);
-        places[..count].len()
+        waiting[..in_places(self.count)].len()
     }
-}
 
-fn is_in_flight(flight: Flight, commid: u32) -> bool
-    ensures { result ≡ is_in_flight commid (told_flight flight) }
-{
-    match flight {
-        Flight::Idle => false,
-        Flight::Busy {
-            commid: other,
-            left: _,
-        } => commid == other,
+    // The one in flight, where this is its COMMID.
+    fn in_flight(&self, commid: u32) -> Option<Flight>
+        ensures { FindsFlight commid self.now result }
+    {
+        self.flight.filter(|flight| flight.commid == commid)
     }
-}
 
-fn resends_left(flight: Flight) -> u8
-    ensures { result ≡ left (told_flight flight) }
-{
-    match flight {
-        Flight::Idle => 0,
-        Flight::Busy { commid: _, left: n } => n,
+    // Whether this COMMID is in flight or waits.
+    fn knows(&self, waiting: &[u32; Bench::PLACES], commid: u32) -> bool
+        requires { self.now.count ≤ most_waiting }
+        ensures { result ≡ among commid (known (told_flight self.now.flight) (take self.now.count waiting.now)) }
+    {
+        self.in_flight(commid).is_some() || waiting[..self.count].contains(&commid)
     }
-}
 
-fn refuse(bench: Bench, refusal: Refusal) -> Step
-    ensures { Refuses bench refusal result }
-{
-    Step {
-        answer: Answer::Refused(refusal),
-        bench,
-    }
-}
-
-// A submission that nothing stands against.
-fn accept(bench: Bench, waiting: &mut [u32; Bench::PLACES], commid: u32) -> Step
-    requires { bench.count < most_waiting }
-    ensures { Accepts bench commid waiting.old result waiting.new }
-{
-    let resends = bench.resends;
-    let flight = bench.flight;
-    let count = bench.count;
-    let places = read(waiting);
-    match flight {
-        Flight::Idle => {
-            *waiting = store(&places[..count]);
-            Step {
-                answer: Answer::Sent,
-                bench: Bench {
-                    resends,
-                    flight: Flight::Busy {
-                        commid,
-                        left: resends,
-                    },
-                    count,
-                },
-            }
+    // A submission that nothing stands against.
+    fn accept(&mut self, waiting: &mut [u32; Bench::PLACES], commid: u32) -> Answer
+        requires { self.old.count < most_waiting }
+        ensures { Accepts self.old commid waiting.old result self.new waiting.new }
+    {
+        if self.flight.is_some() {
+            *waiting = store_with(&waiting[..self.count], commid);
+            self.count += 1;
+            return Answer::Waits;
         }
-        Flight::Busy { commid: _, left: _ } => {
-            *waiting = store_with(&places[..count], commid);
-            Step {
-                answer: Answer::Waits,
-                bench: Bench {
-                    resends,
-                    flight,
-                    count: count + 1,
-                },
-            }
+        *waiting = store(&waiting[..self.count]);
+        self.flight = Some(Flight {
+            commid,
+            left: self.resends,
+        });
+        Answer::Sent
+    }
+
+    // The slot falls free: the oldest that waits goes out.
+    fn release(&mut self, waiting: &mut [u32; Bench::PLACES]) -> Option<u32>
+        ensures { Frees self.old waiting.old result self.new waiting.new }
+    {
+        let count = in_places(self.count);
+        if count == 0 {
+            *waiting = [0; Bench::PLACES];
+            self.flight = None;
+            self.count = 0;
+            return None;
         }
-    }
-}
-
-// The bench, once the slot fell free and the oldest that waits went out.
-#[derive(Clone, Copy)]
-struct Freed {
-    next: Next,
-    bench: Bench,
-}
-
-fn release(bench: Bench, waiting: &mut [u32; Bench::PLACES]) -> Freed
-    ensures { Frees bench waiting.old result waiting.new }
-{
-    let resends = bench.resends;
-    let count = in_places(bench.count);
-    let places = read(waiting);
-    if count == 0 {
-        *waiting = [0u32; Bench::PLACES];
-        return Freed {
-            next: Next::Nothing,
-            bench: Bench {
-                resends,
-                flight: Flight::Idle,
-                count: 0,
-            },
-        };
-    }
-    let oldest = places[0];
-    *waiting = store(&places[1..count]);
-    Freed {
-        next: Next::Goes(oldest),
-        bench: Bench {
-            resends,
-            flight: Flight::Busy {
-                commid: oldest,
-                left: resends,
-            },
-            count: count - 1,
-        },
+        let oldest = waiting[0];
+        *waiting = store(&waiting[1..count]);
+        self.flight = Some(Flight {
+            commid: oldest,
+            left: self.resends,
+        });
+        self.count = count - 1;
+        Some(oldest)
     }
 }

@@ -6,5 +6,5 @@ pub mod bench;
 mod places;
 pub mod refusal;
 
-pub use crate::bench::{Answer, Bench, Flight, Next, Start, Step};
+pub use crate::bench::{Answer, Bench, Flight};
 pub use crate::refusal::Refusal;

@@ -15,12 +15,12 @@ pub enum Refusal {
     TooManyResends,
 }
 
-impl Refusal {
-    // The numbers of the table of refusals.
-    pub fn numbers(self) -> Numbers
-        ensures { NumbersSenderRefusal self result }
-    {
-        match self {
+// The numbers of the table of refusals.
+impl From<Refusal> for Numbers {
+    ghost from_gives = { NumbersSenderRefusal };
+
+    fn from(refusal: Refusal) -> Numbers {
+        match refusal {
             Refusal::Full => Numbers::plainly(70),
             Refusal::Known => Numbers::plainly(71),
             Refusal::NotInFlight => Numbers::plainly(72),

@@ -5,11 +5,11 @@ use mathlib.Core.Path.{◌≡◌, refl, sym, ap, ap₂, ◌∙◌}
 use Prim.Native.Nat.{ℕ, zero, suc, ◌+◌, ◌*◌, ◌/◌, ◌%◌, ◌^◌, ◌<◌}
 use native.Mathlib.Nat.{mod-lt, zero-lt-suc, mul-one, zero-add, suc-add, div-add-mod', div-eq_of_lt}
 use native.Mathlib.Omega.{arith}
-use lib.Bits.{bit_xor, differ, xor_comm, xor_self, xor_zero_r, xor_shr, xor_lt, xor_shifted, shifted_half, shifted_even}
+use lib.Bits.{bit_xor, differ, xor_comm, xor_self, xor_zero_r, xor_shr, xor_lt, xor_shifted, shifted_half, shifted_even, xor_assoc}
 use lib.Dec.{eqb, eqb-suc-zero, lit<}
 use lib.Pow.{split, pow_pos}
 use Rattle.sum.specs.Crc.{polynomial, bit_step, bit_steps}
-use Rattle.sum.proofs.Xor.{xor_half, xor_odd, xor_swap, xor_undo, xor_assoc}
+use Rattle.sum.proofs.Xor.{xor_half, xor_odd, xor_swap, xor_undo}
 
 two_pos : zero < 2
 two_pos = zero-lt-suc 1

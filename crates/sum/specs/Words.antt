@@ -1,8 +1,8 @@
--- Notions that the contracts inside this crate cite: digits as one number, what a step keeps, and what holds between steps.
+-- Notions that the contracts inside this crate cite: digits as one number, what a step keeps, and where a stage leads.
 -- Nothing that the sum promises rests on them.
-use Rattle.std.specs.Prelude.{◌≡◌, List, [], ◌∷◌, ℕ, ◌+◌, ◌-◌, ◌*◌, ◌^◌, ◌≤◌, length, drop}
+use Rattle.std.specs.Prelude.{◌≡◌, List, [], ◌∷◌, ℕ, ◌+◌, ◌*◌, ◌^◌, ◌≤◌, length}
 use Rattle.std.specs.Int.Bits.{bit_xor}
-use Rattle.sum.specs.Crc.{all_ones, bit_steps, state_after}
+use Rattle.sum.specs.Crc.{bit_steps}
 use Rattle.sum.specs.declared.Pending.{Pending}
 
 -- digits of w bits each as one number, the first digit lowest: bytes are digits of 8 bits
@@ -27,7 +27,6 @@ value p = p.after * 2 ^ 64 + p.word
 abbrev pub Takes : ℕ → ℕ → Pending → ℕ → Pending → Type 0
 Takes bits room p x r = (n : ℕ) → room ≤ n → bit_steps (bits + n) (bit_xor (value p) x) ≡ bit_steps n (value r)
 
--- so many of the bytes are taken: what is pending, with the bytes to come added, leads to the state after all of them
-abbrev pub Leads : List ℕ → ℕ → Pending → Type 0
-Leads bytes taken p =
-    (taken ≤ length bytes) × (state_after all_ones bytes ≡ bit_steps (8 * (length bytes - taken)) (bit_xor (value p) (number 8 (drop taken bytes))))
+-- the state that what is pending and the bytes to come lead to
+abbrev pub leads_to : List ℕ → Pending → ℕ
+leads_to rest p = bit_steps (8 * length rest) (bit_xor (value p) (number 8 rest))

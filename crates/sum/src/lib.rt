@@ -12,24 +12,16 @@
 // shifted out, and what their bit steps leave, 32 steps at once (`settle`), is added.
 #![tactic(auto)]
 
-ghost use Rattle.std.specs.Prelude.{◌≡◌, ◌+◌, ◌^◌, ◌≤◌, ◌<◌, length, take, drop};
+ghost use Rattle.std.specs.Prelude.{◌≡◌, ◌^◌, ◌<◌, ◌≤◌};
 ghost use Rattle.sum.specs.Crc.{all_ones, bit_steps, state_after};
 ghost use Rattle.sum.specs.Promise.{Sums};
-ghost use Rattle.sum.specs.Words.{number, Takes, Leads};
+ghost use Rattle.sum.specs.Words.{Takes, leads_to};
 
 // The start value, and what the final inversion adds.
 const ALL_ONES: u32 = 0xFFFF_FFFF;
 
-// The bytes of a word.
-const WORD: usize = 8;
-
 // The bytes that must follow a word: at its last bit `multiple` ends 120 bits on, of which 32 may lie past the message, and 88 are left.
 const ROOM: usize = 11;
-
-const WORD_AND_ROOM: usize = WORD + ROOM;
-
-// The bytes of half a word: as many as one `settle` takes.
-const HALF: usize = 4;
 
 // What is still to be added to the bytes to come: to the first eight, and to the eight after them.
 #[derive(Clone, Copy)]
@@ -38,10 +30,10 @@ struct Pending {
     after: u64,
 }
 
-// How many bytes are taken, and what is pending there.
+// The bytes to come, and what is pending there.
 #[derive(Clone, Copy)]
-struct Stage {
-    taken: usize,
+struct Stage<'a> {
+    rest: &'a [u8],
     pending: Pending,
 }
 
@@ -49,50 +41,51 @@ struct Stage {
 pub fn crc(bytes: &[u8]) -> u32
     ensures { Sums bytes.now result }
 {
-    let state = by_bytes(bytes, by_halves(bytes, by_words(bytes)));
+    let words = by_words(bytes);
+    let halves = by_halves(words.rest, words.pending);
+    let state = by_bytes(halves.rest, halves.pending);
     state ^ ALL_ONES
 }
 
 // From the first byte on, word after word, while there is room.
-fn by_words(bytes: &[u8]) -> Stage
-    ensures { Leads bytes.now result.taken result.pending }
+fn by_words(bytes: &[u8]) -> Stage<'_>
+    ensures { leads_to result.rest.now result.pending ≡ state_after all_ones bytes.now }
 {
+    let mut rest = bytes;
     let mut pending = Pending {
-        word: ALL_ONES as u64,
+        word: u64::from(ALL_ONES),
         after: 0,
     };
-    let mut taken = 0;
-    while WORD_AND_ROOM <= bytes.len() - taken {
-        pending = word_step(pending, bytes_at(bytes, taken, WORD));
-        taken += WORD;
+    while let Some((word, after)) = rest.split_first_chunk() {
+        if after.len() < ROOM {
+            break;
+        }
+        pending = word_step(pending, u64::from_le_bytes(*word));
+        rest = after;
     }
-    Stage { taken, pending }
+    Stage { rest, pending }
 }
 
 // Four bytes at a time, while there are four.
-fn by_halves(bytes: &[u8], stage: Stage) -> Stage
-    requires { Leads bytes.now stage.taken stage.pending }
-    ensures { Leads bytes.now result.taken result.pending }
+// The three loops stay three: the library reads eight bytes, four and one by functions of their types, and a trait over them is longer.
+fn by_halves(bytes: &[u8], mut pending: Pending) -> Stage<'_>
+    ensures { leads_to result.rest.now result.pending ≡ leads_to bytes.now pending }
 {
-    let mut pending = stage.pending;
-    let mut taken = stage.taken;
-    while HALF <= bytes.len() - taken {
-        pending = half_step(pending, bytes_at(bytes, taken, HALF));
-        taken += HALF;
+    let mut rest = bytes;
+    while let Some((half, after)) = rest.split_first_chunk() {
+        pending = bits_step::<32>(pending, u32::from_le_bytes(*half));
+        rest = after;
     }
-    Stage { taken, pending }
+    Stage { rest, pending }
 }
 
 // The last bytes, one by one. What is pending at the end is the state.
-fn by_bytes(bytes: &[u8], stage: Stage) -> u32
-    requires { Leads bytes.now stage.taken stage.pending }
-    ensures { result ≡ state_after all_ones bytes.now }
+fn by_bytes(bytes: &[u8], mut pending: Pending) -> u32
+    requires { leads_to bytes.now pending < 2 ^ 32 }
+    ensures { result ≡ leads_to bytes.now pending }
 {
-    let mut pending = stage.pending;
-    let mut taken = stage.taken;
-    while 0 < bytes.len() - taken {
-        pending = byte_step(pending, bytes[taken]);
-        taken += 1;
+    for byte in bytes {
+        pending = bits_step::<8>(pending, u32::from(*byte));
     }
     pending.word as u32
 }
@@ -113,27 +106,17 @@ fn word_step(pending: Pending, word: u64) -> Pending
     }
 }
 
-// Four bytes: they are shifted out, and what their bit steps leave is added.
-fn half_step(pending: Pending, half: u64) -> Pending
-    requires { half < 2 ^ 32 }
-    ensures { Takes 32 0 pending half result }
+// At most 32 bits: they are shifted out, and what their bit steps leave is added. These are the last of 32, with zeros in front.
+fn bits_step<const BITS: u32>(pending: Pending, bits: u32) -> Pending
+    requires few { (0 < BITS) × (BITS ≤ 32) }
+    requires fits { bits < 2 ^ BITS }
+    ensures { Takes BITS 0 pending bits result }
 {
-    let left = settle(((pending.word ^ half) % 0x1_0000_0000) as u32);
+    let top = ((pending.word ^ u64::from(bits)) << (32 - BITS)) % 0x1_0000_0000;
+    let left = settle(top as u32);
     Pending {
-        word: (pending.after << 32) ^ (pending.word >> 32) ^ (left as u64),
-        after: pending.after >> 32,
-    }
-}
-
-// One byte, likewise: its eight bit steps are the last of 32, with zeros in front.
-fn byte_step(pending: Pending, byte: u8) -> Pending
-    ensures { Takes 8 0 pending byte result }
-{
-    let low = ((pending.word % 256) as u8) ^ byte;
-    let left = settle((low as u32) << 24);
-    Pending {
-        word: (pending.after << 56) ^ (pending.word >> 8) ^ (left as u64),
-        after: pending.after >> 8,
+        word: (pending.after << (64 - BITS)) ^ (pending.word >> BITS) ^ u64::from(left),
+        after: pending.after >> BITS,
     }
 }
 
@@ -149,25 +132,4 @@ fn settle(low: u32) -> u32
     let beside = quotient ^ (quotient >> 1);
     let alone = quotient ^ (quotient >> 26) ^ (quotient >> 16) ^ (quotient >> 10);
     alone ^ (beside >> 22) ^ (beside >> 11) ^ (beside >> 7) ^ (beside >> 4) ^ (beside >> 1)
-}
-
-// At most eight bytes from a place on, the first lowest. With their count known, the compiler makes one load of the loop.
-fn bytes_at(bytes: &[u8], place: usize, count: usize) -> u64
-    requires { (count ≤ 8) × (place + count ≤ length bytes.now) }
-    ensures { result ≡ number 8 (take count (drop place bytes.now)) }
-{
-    let mut value = 0u64;
-    let mut left = count;
-    while 0 < left {
-        left -= 1;
-        value = (value << 8) | wide(bytes[place + left]);
-    }
-    value
-}
-
-// A byte as a word; that it keeps its value is a promise, which the proof of the loop above cites.
-fn wide(byte: u8) -> u64
-    ensures { result ≡ byte }
-{
-    byte as u64
 }

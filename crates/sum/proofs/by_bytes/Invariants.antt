@@ -1,11 +1,8 @@
--- `sum::by_bytes`. The invariant is what it is given; with no byte to come, what is pending is the state.
-use Prim.Native.Nat.{◌-◌}
-use lib.ListN.{length}
-use Rattle.sum.specs.Words.{Leads}
+-- `sum::by_bytes`. The invariant is what it promises: what is pending and the bytes to come lead to the same state.
+use mathlib.Core.Path.{◌≡◌}
+use lib.ListN.{drop}
+use Rattle.sum.specs.Words.{leads_to}
 use Rattle.sum.proofs.by_bytes.Given as goal
 
-abbrev pub invariant-loop-taken : goal.invariant-loop-taken
-invariant-loop-taken l = Leads l.bytes l.taken l.pending
-
-abbrev pub decreases-loop-taken : goal.decreases-loop-taken
-decreases-loop-taken l = length l.bytes - l.taken
+abbrev pub invariant-loop-byte : goal.invariant-loop-byte
+invariant-loop-byte l = leads_to (drop l.byte-index l.bytes) l.pending ≡ leads_to l.bytes l.fn.pending

@@ -1,18 +1,14 @@
 -- `sum::by_halves`: four bytes taken lead to the same state.
+use mathlib.Core.Path.{◌∙◌}
 use native.Mathlib.Omega.{arith}
-use Rattle.sum.proofs.Stages.{leads_on, bytes_lt}
+use Rattle.sum.proofs.Stages.{chunk_on}
 use Rattle.sum.proofs.by_halves.Goals as goal
 
-pub half_step-pending-requires : goal.half_step-pending-requires
-half_step-pending-requires c =
-    rw c.bytes_at.ensures
-    (bytes_lt c.args.bytes.now 4 c.loop-taken.taken (λ k. (c.type_inv.bytes k).fits))
-
-pub loop-taken-preserved : goal.loop-taken-preserved
-loop-taken-preserved c =
-    let at = c.loop-taken in
-    leads_on c.args.bytes.now 4 0 at.taken at.pending c.bytes_at.result c.half_step-pending.result
-    (λ k. (c.type_inv.bytes k).fits) (omega arith) (omega arith) c.half_step-pending.ensures c.bytes_at.ensures at.invariant
-
-pub returns : goal.returns
-returns c = c.loop-taken.invariant
+pub loop-half-preserved : goal.loop-half-preserved
+loop-half-preserved c =
+    let at = c.loop-half in
+    let cut = c.in-Some.ensures.cases in
+    let on =
+    chunk_on at.rest.now c.in-Some.half.now c.in-Some.after.now 3 0 at.pending c.from_le_bytes.result c.bits_step-pending.result
+    at.invariant.0 cut.0 cut.1 cut.2 (omega arith) c.from_le_bytes.ensures c.bits_step-pending.ensures in
+    (on.0, on.1 ∙ at.invariant.1)

@@ -1,11 +1,12 @@
--- `sum::by_halves`. The invariant is what it is given and what it promises: what is pending, and the bytes to come, lead to the state after all bytes.
-use Prim.Native.Nat.{◌-◌}
+-- `sum::by_halves`. The invariant is what it promises: what is pending and the bytes to come lead to the same state.
+use mathlib.Core.Path.{◌≡◌}
 use lib.ListN.{length}
-use Rattle.sum.specs.Words.{Leads}
+use Rattle.sum.specs.Detection.{Bytes}
+use Rattle.sum.specs.Words.{leads_to}
 use Rattle.sum.proofs.by_halves.Given as goal
 
-abbrev pub invariant-loop-taken : goal.invariant-loop-taken
-invariant-loop-taken l = Leads l.bytes l.taken l.pending
+abbrev pub invariant-loop-half : goal.invariant-loop-half
+invariant-loop-half l = Bytes l.rest × (leads_to l.rest l.pending ≡ leads_to l.bytes l.fn.pending)
 
-abbrev pub decreases-loop-taken : goal.decreases-loop-taken
-decreases-loop-taken l = length l.bytes - l.taken
+abbrev pub decreases-loop-half : goal.decreases-loop-half
+decreases-loop-half l = length l.rest

@@ -1,11 +1,13 @@
--- `sum::by_words`. The invariant is what it promises: what is pending, and the bytes to come, lead to the state after all bytes.
-use Prim.Native.Nat.{◌-◌}
+-- `sum::by_words`. The invariant is what it promises: what is pending and the bytes to come lead to the same state.
+use mathlib.Core.Path.{◌≡◌}
 use lib.ListN.{length}
-use Rattle.sum.specs.Words.{Leads}
+use Rattle.sum.specs.Crc.{all_ones, state_after}
+use Rattle.sum.specs.Detection.{Bytes}
+use Rattle.sum.specs.Words.{leads_to}
 use Rattle.sum.proofs.by_words.Given as goal
 
-abbrev pub invariant-loop-taken : goal.invariant-loop-taken
-invariant-loop-taken l = Leads l.bytes l.taken l.pending
+abbrev pub invariant-loop-word : goal.invariant-loop-word
+invariant-loop-word l = Bytes l.rest × (leads_to l.rest l.pending ≡ state_after all_ones l.bytes)
 
-abbrev pub decreases-loop-taken : goal.decreases-loop-taken
-decreases-loop-taken l = length l.bytes - l.taken
+abbrev pub decreases-loop-word : goal.decreases-loop-word
+decreases-loop-word l = length l.rest
