@@ -38,13 +38,10 @@ impl Display for Reason {
 
 // Behind the words std puts the system's number in brackets.
 fn without_number(words: &[u8]) -> &str {
-    match str::from_utf8(words) {
-        Ok(words) => match words.rsplit_once(" (os error ") {
-            Some((reason, _)) => reason,
-            None => words,
-        },
-        Err(_) => "",
-    }
+    let words = str::from_utf8(words).unwrap_or("");
+    words
+        .rsplit_once(" (os error ")
+        .map_or(words, |(reason, _)| reason)
 }
 
 // Bytes on standard error.

@@ -53,6 +53,7 @@ pub fn read_full(input: &mut impl Read, buffer: &mut [u8]) -> io::Result<usize>
     ensures { IfOk result (λ size. size ≤ length buffer.new) }
 {
     let mut size = 0;
+    // a `for` has no count to go by: a read tells only afterwards how far it went
     while size < buffer.len() {
         let taken = input.read(&mut buffer[size..])?;
         if taken == 0 {

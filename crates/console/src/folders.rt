@@ -1,9 +1,7 @@
 // Whether a folder has an entry of a name, which need not be text.
-// Rests on the kit's `check`, on `table`, and on std's `fs`.
+// Rests on std's files and text.
 ghost use Rattle.std.specs.Prelude.{◌≤◌, length};
 
-use crate::table::{piece, pieces};
-use check::same;
 use std::io::{Error, ErrorKind, Read, Result};
 use std::rt::Files;
 use std::str;
@@ -35,10 +33,9 @@ pub(crate) fn is_there(rt: &impl Files, name: &[u8]) -> Result<bool> {
 fn behind_slash(name: &[u8]) -> usize
     ensures { result ≤ length name.now }
 {
-    match name.iter().rposition(|byte| *byte == b'/') {
-        Some(place) => place + 1,
-        None => 0,
-    }
+    name.iter()
+        .rposition(|byte| *byte == b'/')
+        .map_or(0, |place| place + 1)
 }
 
 fn open<R: Files>(rt: &R, folder: &[u8]) -> Result<R::Dir> {
@@ -50,10 +47,7 @@ fn open<R: Files>(rt: &R, folder: &[u8]) -> Result<R::Dir> {
 }
 
 fn is_among(names: &[u8], entry: &[u8]) -> bool {
-    for k in 0..pieces(names, NAME_END) {
-        if same(piece(names, NAME_END, k), entry) {
-            return true;
-        }
-    }
-    false
+    names
+        .split(|byte| *byte == NAME_END)
+        .any(|name| name == entry)
 }
