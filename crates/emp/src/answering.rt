@@ -1,9 +1,9 @@
 // What the sender answered: written into the ledger, and told in a line.
 // Rests on `sender` for the answers and on `ledger` for what is told at the end.
-use crate::refusing::refuse_by;
+use crate::refusing::refuse_message;
 use crate::sending::Sending;
-use sender::{Answer, Next, Refusal};
-use wording::refusals::{Subject, What};
+use sender::{Answer, Refusal};
+use wording::refusals::What;
 use wording::{Row, Status, Told};
 
 // What an answer says, in the order of the template's choices; and whether the next one goes out.
@@ -49,16 +49,15 @@ impl<R: Print + Eprint> Sending<'_, R> {
                 self.status = Status::Refused;
                 self.say_ended(Words::Failed, Words::FailedAndSent, commid, next)
             }
-            Answer::Refused(refusal) => self.refused(refusal, commid),
         }
     }
 
-    fn refused(&mut self, refusal: Refusal, commid: u32) -> Told<()> {
+    pub(crate) fn refused(&mut self, refusal: Refusal, commid: u32) -> Told<()> {
         let what = What::Event {
             number: self.lines,
             commid: commid as u64,
         };
-        self.status = refuse_by(self.teller, Subject::by_itself(what), refusal.numbers())?;
+        self.status = refuse_message(self.teller, what, refusal)?;
         Ok(())
     }
 
@@ -71,10 +70,16 @@ impl<R: Print + Eprint> Sending<'_, R> {
     }
 
     // The one in flight has ended, and the next one goes out, where one waits.
-    fn say_ended(&mut self, alone: Words, with_next: Words, commid: u32, next: Next) -> Told<()> {
+    fn say_ended(
+        &mut self,
+        alone: Words,
+        with_next: Words,
+        commid: u32,
+        next: Option<u32>,
+    ) -> Told<()> {
         match next {
-            Next::Nothing => self.say(alone, commid, 0),
-            Next::Goes(other) => {
+            None => self.say(alone, commid, 0),
+            Some(other) => {
                 self.ledger.send();
                 self.say(with_next, commid, other)
             }

@@ -4,7 +4,7 @@ use crate::golden_files::retired_named;
 use crate::watching::Watch;
 use envelope::Header;
 use envelope::sequence::{Sequence, judge};
-use golden::{Comparison, Finding, Name, compare, find};
+use golden::{Found, Name, compare, find};
 use wording::{Row, Status, Told};
 
 // How a message and its record go together: by the first the template chooses, and the others stand in its words.
@@ -64,8 +64,8 @@ impl<R: Print + Eprint> Watch<'_, R> {
             number: header.number,
         };
         match find(golden, name) {
-            Finding::Found { record, opened: _ } => compared_with(message, golden, record),
-            _ => match retired_named(golden, name) {
+            Ok(Found { record, .. }) => compared_with(message, golden, record),
+            Err(_) => match retired_named(golden, name) {
                 Some(record) => Beside::new(5, record, 0),
                 None => Beside::new(1, 0, 0),
             },
@@ -88,8 +88,8 @@ fn follows(last: Option<u32>, number: u32) -> (u64, u64) {
 fn compared_with(message: &[u8], golden: &[u8], record: usize) -> Beside {
     let mut places = [0u32; 1];
     match compare(golden, record, message, &mut places) {
-        Comparison::Same => Beside::new(2, record, 0),
-        Comparison::Different(total) => Beside::new(3, record, total as u64),
-        _ => Beside::new(4, record, 0),
+        Ok(0) => Beside::new(2, record, 0),
+        Ok(total) => Beside::new(3, record, total as u64),
+        Err(_) => Beside::new(4, record, 0),
     }
 }

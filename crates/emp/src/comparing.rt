@@ -1,7 +1,7 @@
 // Compare: a golden record with a radio's message, and where they differ.
 // Rests on `golden`, which reads both messages, compares them and lists the places, and on `layout` for the fields; here neither is read again.
-use crate::refusing::refuse_by;
-use golden::{Comparison, Record, Refusal, compare, stored_message};
+use crate::refusing::refuse;
+use golden::{Record, Refusal, compare, stored_message};
 use layout::{Layout, field_at, layout_of};
 use wording::refusals::{Subject, What, Whole};
 use wording::sides::show_difference;
@@ -19,13 +19,13 @@ pub fn compare_record(
     let mut places = [NOWHERE; Record::SIZE];
     let part = stored_message(file, record);
     match compare(file, record, radio, &mut places) {
-        Comparison::Same => teller.tell(Status::Done, Row::Same, &[radio.len() as u64], radio),
-        Comparison::Different(total) => {
+        Ok(0) => teller.tell(Status::Done, Row::Same, &[radio.len() as u64], radio),
+        Ok(total) => {
             let golden = part.slice(file);
             let marks = marks_of(golden, radio, &places);
             show_difference(teller, golden, radio, total, &marks)
         }
-        Comparison::Refused(refusal) => refuse_comparing(teller, refusal, part.place),
+        Err(refusal) => refuse_comparing(teller, refusal, part.place),
     }
 }
 
@@ -40,7 +40,7 @@ fn refuse_comparing(
         _ => Whole::File { from: place as u64 },
     };
     let what = What::Alone;
-    refuse_by(teller, Subject { what, whole }, refusal.numbers())
+    refuse(teller, Subject { what, whole }, refusal)
 }
 
 // A mark for each place that is listed and shown.
@@ -65,5 +65,5 @@ fn marks_of(golden: &[u8], radio: &[u8], places: &[u32; Record::SIZE]) -> [u8; R
 
 // The mark of a place: one more than the order of its field.
 pub fn mark_in(layout: Layout, place: usize) -> u8 {
-    field_at(layout, place).order().wrapping_add(1)
+    u8::from(field_at(layout, place)).wrapping_add(1)
 }

@@ -1,12 +1,10 @@
 // Unwrap, wrap and acknowledge: what a frame or a capture holds, and frames made on standard output and nowhere else.
 // Rests on `frame`, which unwraps, measures, wraps and acknowledges.
 use crate::reading::show_message;
-use crate::refusing::{refuse_by, refuse_message};
+use crate::refusing::{refuse, refuse_message};
 use envelope::Part;
 use frame::layout::{ACKNOWLEDGMENT_SIZE, BODY_PLACE, LEAST_SIZE};
-use frame::{
-    Acknowledgment, DataMessage, Refusal, Unwrapped, Wrapped, acknowledge, first, unwrap, wrap,
-};
+use frame::{Acknowledgment, DataMessage, Refusal, Unwrapped, acknowledge, first, unwrap, wrap};
 use wording::files::MOST;
 use wording::refusals::{Subject, What, Whole};
 use wording::{Manner, Row, Status, Teller, Told};
@@ -38,11 +36,11 @@ pub fn unwrap_file(teller: &Teller<'_, impl Print + Eprint>, file: &[u8]) -> Tol
 
 fn unwrap_frame(teller: &Teller<'_, impl Print + Eprint>, file: &[u8]) -> Told {
     match unwrap(file) {
-        Unwrapped::Data(data) => show_data(teller, data, file),
-        Unwrapped::Acknowledged(acknowledgment) => {
+        Ok(Unwrapped::Data(data)) => show_data(teller, data, file),
+        Ok(Unwrapped::Acknowledged(acknowledgment)) => {
             tell_acknowledgment(teller, None, acknowledgment)
         }
-        Unwrapped::Refused(refusal) => refuse_frame(teller, Spot::FIRST, refusal),
+        Err(refusal) => refuse_frame(teller, Spot::FIRST, refusal),
     }
 }
 
@@ -74,11 +72,11 @@ fn unwrap_capture(teller: &Teller<'_, impl Print + Eprint>, capture: &[u8]) -> T
 
 fn tell_frame(teller: &Teller<'_, impl Print + Eprint>, spot: Spot, bytes: &[u8]) -> Told {
     match unwrap(bytes) {
-        Unwrapped::Data(data) => tell_data(teller, spot, data, bytes),
-        Unwrapped::Acknowledged(acknowledgment) => {
+        Ok(Unwrapped::Data(data)) => tell_data(teller, spot, data, bytes),
+        Ok(Unwrapped::Acknowledged(acknowledgment)) => {
             tell_acknowledgment(teller, Some(spot), acknowledgment)
         }
-        Unwrapped::Refused(refusal) => refuse_frame(teller, spot, refusal),
+        Err(refusal) => refuse_frame(teller, spot, refusal),
     }
 }
 
@@ -137,7 +135,7 @@ fn refuse_frame(teller: &Teller<'_, impl Print + Eprint>, spot: Spot, refusal: R
             from: place.wrapping_add(BODY_PLACE as u64),
         },
     };
-    refuse_by(teller, of, refusal.numbers())
+    refuse(teller, of, refusal)
 }
 
 pub fn wrap_message(teller: &Teller<'_, impl Print + Eprint>, commid: u32, message: &[u8]) -> Told {
@@ -156,12 +154,16 @@ pub fn acknowledge_commid(
     put_frame(teller, wrapped, &buffer)
 }
 
-fn put_frame(teller: &Teller<'_, impl Print + Eprint>, wrapped: Wrapped, buffer: &[u8]) -> Told {
+fn put_frame(
+    teller: &Teller<'_, impl Print + Eprint>,
+    wrapped: Result<usize, Refusal>,
+    buffer: &[u8],
+) -> Told {
     match wrapped {
-        Wrapped::Written(size) => {
+        Ok(size) => {
             let whole = Part { place: 0, size };
             teller.put(whole.slice(buffer))
         }
-        Wrapped::Refused(refusal) => refuse_message(teller, What::ToBeMade, refusal.numbers()),
+        Err(refusal) => refuse_message(teller, What::ToBeMade, refusal),
     }
 }

@@ -1,9 +1,10 @@
 // List, check and find: what a golden file holds.
 // Rests on `golden`, which judges, finds and counts, and knows where a record has its message. Which retired record has a name is told by its entries.
-use crate::refusing::refuse_by;
+use crate::refusing::refuse;
+use envelope::Numbers;
 use golden::{
-    Checking, Counting, Entry, Finding, Name, Ordering, Refusal, ascending, check, count,
-    count_retired, entry_at, find, find_by_halving, stored_message,
+    Found, Name, Refusal, RefusedAfter, RefusedAt, ascending, check, count, count_retired,
+    entry_at, find, find_by_halving, stored_message,
 };
 use wording::refusals::{Subject, What, Whole};
 use wording::{Row, Status, Teller, Told};
@@ -11,11 +12,11 @@ use wording::{Row, Status, Teller, Told};
 // Every record, a line each, good or bad.
 pub fn list_file(teller: &Teller<'_, impl Print + Eprint>, file: &[u8]) -> Told {
     match count(file) {
-        Counting::Count(count) => {
+        Ok(count) => {
             teller.tell(Status::Done, Row::Counted, &[count as u64], file)?;
             list_records(teller, file, count)
         }
-        Counting::Refused(refusal) => refuse_record(teller, file, 0, refusal),
+        Err(refusal) => refuse_record(teller, file, 0, refusal),
     }
 }
 
@@ -31,40 +32,32 @@ fn list_records(teller: &Teller<'_, impl Print + Eprint>, file: &[u8], records: 
 
 fn list_record(teller: &Teller<'_, impl Print + Eprint>, file: &[u8], n: usize) -> Told {
     match entry_at(file, n) {
-        Entry::Good {
-            message_type,
-            number,
-            size,
-            retired,
-        } => teller.tell(
+        Ok(entry) => teller.tell(
             Status::Done,
             Row::Listed,
             &[
                 n as u64,
-                message_type as u64,
-                number as u64,
-                size as u64,
-                retired as u64,
+                entry.name.message_type as u64,
+                entry.name.number as u64,
+                entry.size as u64,
+                entry.retired as u64,
             ],
             file,
         ),
-        Entry::Refused(refusal) => refuse_record(teller, file, n, refusal),
+        Err(refusal) => refuse_record(teller, file, n, refusal),
     }
 }
 
 pub fn check_file(teller: &Teller<'_, impl Print + Eprint>, file: &[u8]) -> Told {
     match check(file) {
-        Checking::Count(count) => tell_checked(teller, file, count),
-        Checking::Refused { record, refusal } => refuse_checked(teller, file, record, refusal),
+        Ok(count) => tell_checked(teller, file, count),
+        Err(refused) => refuse_checked(teller, file, refused),
     }
 }
 
 // The count, how many are retired, and each of those: no sum guards the mark.
 fn tell_checked(teller: &Teller<'_, impl Print + Eprint>, file: &[u8], records: usize) -> Told {
-    let retired = match count_retired(file) {
-        Counting::Count(retired) => retired,
-        Counting::Refused(_) => 0,
-    };
+    let retired = count_retired(file).unwrap_or(0);
     let numbers = [records as u64, retired as u64];
     teller.tell(Status::Done, Row::Checked, &numbers, file)?;
     tell_retired(teller, file, records)?;
@@ -73,7 +66,7 @@ fn tell_checked(teller: &Teller<'_, impl Print + Eprint>, file: &[u8], records: 
 
 fn tell_retired(teller: &Teller<'_, impl Print + Eprint>, file: &[u8], records: usize) -> Told {
     for n in 0..records {
-        if is_retired(entry_at(file, n)) {
+        if entry_at(file, n).is_ok_and(|entry| entry.retired) {
             teller.tell(Status::Done, Row::OneRetired, &[n as u64], file)?;
         }
     }
@@ -83,80 +76,48 @@ fn tell_retired(teller: &Teller<'_, impl Print + Eprint>, file: &[u8], records: 
 // The records are good, so they stand in order or break it.
 fn tell_order(teller: &Teller<'_, impl Print + Eprint>, file: &[u8]) -> Told {
     let numbers = match ascending(file) {
-        Ordering::Ascends => [0, 0],
-        Ordering::Breaks(record) => [1, record as u64],
-        Ordering::Refused { .. } => return Ok(Status::Done),
+        Ok(None) => [0, 0],
+        Ok(Some(record)) => [1, record as u64],
+        Err(_) => return Ok(Status::Done),
     };
     teller.tell(Status::Done, Row::Order, &numbers, file)
 }
 
-fn is_retired(entry: Entry) -> bool {
-    match entry {
-        Entry::Good { retired, .. } => retired,
-        Entry::Refused(_) => false,
-    }
-}
-
+// Of a name that is taken, with the record's name, by which find gives the earlier one: golden/Theorems `RefusesTheLater`, `EarlierIsFound`.
 fn refuse_checked(
     teller: &Teller<'_, impl Print + Eprint>,
     file: &[u8],
-    record: usize,
-    refusal: Refusal,
+    refused: RefusedAt,
 ) -> Told {
-    match refusal {
-        Refusal::NameTaken => refuse_taken(teller, file, record, refusal),
-        _ => refuse_record(teller, file, record, refusal),
+    let RefusedAt { record, refusal } = refused;
+    if let Refusal::NameTaken = refusal
+        && let Ok(entry) = entry_at(file, record)
+        && let Ok(earlier) = find(file, entry.name)
+    {
+        return tell_taken(teller, refused, entry.name, earlier.record);
     }
-}
-
-// With the record's name, by which find gives the earlier one: golden/Theorems `RefusesTheLater`, `EarlierIsFound`, so the other arms are not met.
-fn refuse_taken(
-    teller: &Teller<'_, impl Print + Eprint>,
-    file: &[u8],
-    record: usize,
-    refusal: Refusal,
-) -> Told {
-    match entry_at(file, record) {
-        Entry::Good {
-            message_type,
-            number,
-            ..
-        } => {
-            let name = Name {
-                message_type,
-                number,
-            };
-            tell_taken(teller, file, record, refusal, name)
-        }
-        Entry::Refused(_) => refuse_record(teller, file, record, refusal),
-    }
+    refuse_record(teller, file, record, refusal)
 }
 
 fn tell_taken(
     teller: &Teller<'_, impl Print + Eprint>,
-    file: &[u8],
-    record: usize,
-    refusal: Refusal,
+    refused: RefusedAt,
     name: Name,
+    earlier: usize,
 ) -> Told {
-    match find(file, name) {
-        Finding::Found {
-            record: earlier,
-            ..
-        } => teller.tell(
-            Status::Refused,
-            Row::Taken,
-            &[
-                record as u64,
-                refusal.numbers().number as u64,
-                name.message_type as u64,
-                name.number as u64,
-                earlier as u64,
-            ],
-            file,
-        ),
-        _ => refuse_record(teller, file, record, refusal),
-    }
+    let number = Numbers::from(refused.refusal).number;
+    teller.tell(
+        Status::Refused,
+        Row::Taken,
+        &[
+            refused.record as u64,
+            number as u64,
+            name.message_type as u64,
+            name.number as u64,
+            earlier as u64,
+        ],
+        b"",
+    )
 }
 
 pub fn find_by_halving_in(
@@ -165,39 +126,39 @@ pub fn find_by_halving_in(
     name: Name,
 ) -> Told {
     match find_by_halving(file, name) {
-        Finding::Found { record, opened } => tell_found(teller, record, opened),
-        Finding::Refused { refusal, opened } => refuse_halving(teller, refusal, opened as u64),
+        Ok(found) => tell_found(teller, found),
+        Err(refused) => refuse_halving(teller, refused),
     }
 }
 
-fn tell_found(teller: &Teller<'_, impl Print + Eprint>, record: usize, opened: usize) -> Told {
-    let numbers = [record as u64, opened as u64];
+fn tell_found(teller: &Teller<'_, impl Print + Eprint>, found: Found) -> Told {
+    let numbers = [found.record as u64, found.opened as u64];
     teller.tell(Status::Done, Row::Found, &numbers, b"")
 }
 
 // 27 says nothing about the records that were not opened. A bad record has no number in this answer: one of those opened is bad.
-fn refuse_halving(teller: &Teller<'_, impl Print + Eprint>, refusal: Refusal, opened: u64) -> Told {
-    let numbers = refusal.numbers();
-    match refusal {
+fn refuse_halving(teller: &Teller<'_, impl Print + Eprint>, refused: RefusedAfter) -> Told {
+    let opened = refused.opened as u64;
+    match refused.refusal {
         Refusal::NotFound => {
-            let number = numbers.number as u64;
+            let number = Numbers::from(refused.refusal).number as u64;
             let numbers = [number, opened, opened, number];
             teller.tell(Status::Refused, Row::Missed, &numbers, b"")
         }
-        _ => {
+        refusal => {
             let what = What::SearchedFile { opened };
             let whole = Whole::Record;
-            refuse_by(teller, Subject { what, whole }, numbers)
+            refuse(teller, Subject { what, whole }, refusal)
         }
     }
 }
 
 pub fn find_record(teller: &Teller<'_, impl Print + Eprint>, file: &[u8], name: Name) -> Told {
     match find(file, name) {
-        Finding::Found { record, opened } => tell_found(teller, record, opened),
-        Finding::Refused { refusal, opened } => {
-            refuse_searched(teller, file, refusal, opened)?;
-            tell_named_retired(teller, file, name, refusal)
+        Ok(found) => tell_found(teller, found),
+        Err(refused) => {
+            refuse_searched(teller, file, refused)?;
+            tell_named_retired(teller, file, name, refused.refusal)
         }
     }
 }
@@ -206,12 +167,11 @@ pub fn find_record(teller: &Teller<'_, impl Print + Eprint>, file: &[u8], name: 
 fn refuse_searched(
     teller: &Teller<'_, impl Print + Eprint>,
     file: &[u8],
-    refusal: Refusal,
-    opened: usize,
+    refused: RefusedAfter,
 ) -> Told {
-    let record = opened.saturating_sub(1);
-    let opened = opened as u64;
-    let what = if is_of_one(refusal) {
+    let record = refused.opened.saturating_sub(1);
+    let opened = refused.opened as u64;
+    let what = if is_of_one(refused.refusal) {
         What::SearchedRecord {
             number: record as u64,
             opened,
@@ -219,7 +179,7 @@ fn refuse_searched(
     } else {
         What::SearchedFile { opened }
     };
-    refuse_in(teller, file, record, what, refusal)
+    refuse_in(teller, file, record, what, refused.refusal)
 }
 
 // With 27 the first record of that name that is retired, if there is one.
@@ -229,35 +189,20 @@ fn tell_named_retired(
     name: Name,
     refusal: Refusal,
 ) -> Told {
-    let Refusal::NotFound = refusal else {
-        return Ok(Status::Refused);
-    };
-    match retired_named(file, name) {
-        Some(record) => teller.tell(Status::Refused, Row::NamedRetired, &[record as u64], file),
-        None => Ok(Status::Refused),
+    if let Refusal::NotFound = refusal
+        && let Some(record) = retired_named(file, name)
+    {
+        return teller.tell(Status::Refused, Row::NamedRetired, &[record as u64], file);
     }
+    Ok(Status::Refused)
 }
 
 // The first record that is retired and has the name.
 pub fn retired_named(file: &[u8], name: Name) -> Option<usize> {
-    match count(file) {
-        Counting::Count(records) => {
-            (0..records).find(|n| is_named_retired(entry_at(file, *n), name))
-        }
-        Counting::Refused(_) => None,
-    }
-}
-
-fn is_named_retired(entry: Entry, name: Name) -> bool {
-    match entry {
-        Entry::Good {
-            message_type,
-            number,
-            retired,
-            ..
-        } => retired && message_type == name.message_type && number == name.number,
-        Entry::Refused(_) => false,
-    }
+    let records = count(file).ok()?;
+    (0..records).find(|n| {
+        entry_at(file, *n).is_ok_and(|entry| entry.retired && entry.name == name)
+    })
 }
 
 fn refuse_record(
@@ -278,11 +223,10 @@ fn refuse_record(
 
 // Whether the refusal is a record's own or the whole file's.
 fn is_of_one(refusal: Refusal) -> bool {
-    match refusal {
-        Refusal::BadLength | Refusal::NotClear | Refusal::RecordRefused(_) | Refusal::NameTaken =>
-            true,
-        _ => false,
-    }
+    matches!(
+        refusal,
+        Refusal::BadLength | Refusal::NotClear | Refusal::RecordRefused(_) | Refusal::NameTaken
+    )
 }
 
 // The record's message begins there at a place.
@@ -293,9 +237,8 @@ fn refuse_in(
     what: What,
     refusal: Refusal,
 ) -> Told {
-    let message = stored_message(file, record);
     let whole = Whole::File {
-        from: message.place as u64,
+        from: stored_message(file, record).place as u64,
     };
-    refuse_by(teller, Subject { what, whole }, refusal.numbers())
+    refuse(teller, Subject { what, whole }, refusal)
 }

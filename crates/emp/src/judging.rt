@@ -2,8 +2,8 @@
 // Rests on `judge`, which judges and divides, and on `envelope`, the first reader; nothing is judged here.
 use crate::reading::refuse_reading;
 use console::table::between;
-use envelope::flags::{KIND_CRC, kind};
-use envelope::{Envelope, Reading, read};
+use envelope::flags::kind;
+use envelope::{Envelope, Kind, read};
 use judge::{Judging, Verdict, divide, judge};
 use wording::sides::byte_at;
 use wording::{Row, Status, Teller, Told};
@@ -57,13 +57,13 @@ pub fn judge_message(teller: &Teller<'_, impl Print + Eprint>, message: &[u8]) -
     };
     judged.tell_rules(teller)?;
     match read(message) {
-        Reading::Accepted(_) => teller.tell(
+        Ok(_) => teller.tell(
             Status::Done,
             Row::Accepted,
             &[message.len() as u64],
             message,
         ),
-        Reading::Refused(refusal) => refuse_reading(teller, refusal),
+        Err(refusal) => refuse_reading(teller, refusal),
     }
 }
 
@@ -180,7 +180,7 @@ impl Judged<'_> {
     fn tell_integrity(&self, teller: &Teller<'_, impl Print + Eprint>) -> Told {
         let integrity = Ruling::from(self.judging.integrity);
         let kind = kind(byte_at(self.message, Envelope::FLAGS_PLACE));
-        let is_crc = (kind == KIND_CRC) as u64;
+        let is_crc = (kind == Kind::Crc) as u64;
         let place = self.sizes.field;
         let field = between(self.message, place, self.sizes.end);
         let held = u32::from_be_bytes([

@@ -2,7 +2,7 @@
 // Rests on `envelope`, which reads the message and judges it.
 use crate::reading::refuse_reading;
 use envelope::lateness::{Lateness, judge};
-use envelope::{Addressing, Envelope, Reading, read};
+use envelope::{Addressing, Envelope, read};
 use wording::{Row, Status, Teller, Told};
 
 const TEN: u64 = 10;
@@ -33,8 +33,8 @@ pub fn late_message(
     clock: u64,
 ) -> Told {
     match read(message) {
-        Reading::Accepted(accepted) => tell_lateness(teller, accepted, entry, clock, message),
-        Reading::Refused(refusal) => refuse_reading(teller, refusal),
+        Ok(accepted) => tell_lateness(teller, accepted, entry, clock, message),
+        Err(refusal) => refuse_reading(teller, refusal),
     }
 }
 
@@ -46,7 +46,7 @@ fn tell_lateness(
     message: &[u8],
 ) -> Told {
     let addressing = accepted.addressing;
-    let ttl = ttl_of(addressing);
+    let ttl = addressing.map_or(0, |addressing| addressing.ttl as u64);
     match judge(accepted, entry, clock) {
         Lateness::InTime => {
             let left = left_of(entry, ttl, clock);
@@ -64,18 +64,11 @@ fn tell_lateness(
     }
 }
 
-fn ttl_of(addressing: Addressing) -> u64 {
-    match addressing {
-        Addressing::Absent => 0,
-        Addressing::Present { ttl, .. } => ttl as u64,
-    }
-}
-
 // Why there is no clock.
-fn reason_of(addressing: Addressing) -> Part {
+fn reason_of(addressing: Option<Addressing>) -> Part {
     match addressing {
-        Addressing::Absent => Part::Absent,
-        _ => Part::Zero,
+        None => Part::Absent,
+        Some(_) => Part::Zero,
     }
 }
 

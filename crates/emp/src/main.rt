@@ -13,6 +13,7 @@ mod judging;
 mod lateness;
 mod ledger;
 mod making;
+mod pieces;
 mod reading;
 mod refusing;
 mod sending;

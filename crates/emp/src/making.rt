@@ -1,7 +1,7 @@
 // Sum, make and retire: the CRC of a file; and the record of a message, or a copy of a golden file, on standard output and nowhere else.
 // Rests on `sum` and on `golden`, which work them out.
-use crate::refusing::{refuse_by, refuse_message};
-use golden::{Making, Record, Retiring, make, retire, stored_message};
+use crate::refusing::{refuse, refuse_message};
+use golden::{Record, make, retire, stored_message};
 use sum::crc;
 use wording::refusals::{Subject, What, Whole};
 use wording::{Row, Status, Teller, Told};
@@ -18,8 +18,8 @@ pub fn sum_file(teller: &Teller<'_, impl Print + Eprint>, file: &[u8]) -> Told {
 pub fn make_record(teller: &Teller<'_, impl Print + Eprint>, message: &[u8]) -> Told {
     let mut record = [0u8; Record::SIZE];
     match make(message, &mut record) {
-        Making::Made => teller.put(&record),
-        Making::Refused(refusal) => refuse_message(teller, What::ToBeMade, refusal.numbers()),
+        Ok(()) => teller.put(&record),
+        Err(refusal) => refuse_message(teller, What::ToBeMade, refusal),
     }
 }
 
@@ -28,8 +28,8 @@ pub fn retire_record(teller: &Teller<'_, impl Print + Eprint>, file: &[u8], reco
     let mut buffer = [0u8; Record::LARGEST_FILE];
     let copy = front(&mut buffer, file.len());
     match retire(file, record, copy) {
-        Retiring::Done => teller.put(copy),
-        Retiring::Refused(refusal) => {
+        Ok(()) => teller.put(copy),
+        Err(refusal) => {
             let message = stored_message(file, record);
             let of = Subject {
                 what: What::ToBeMade,
@@ -37,7 +37,7 @@ pub fn retire_record(teller: &Teller<'_, impl Print + Eprint>, file: &[u8], reco
                     from: message.place as u64,
                 },
             };
-            refuse_by(teller, of, refusal.numbers())
+            refuse(teller, of, refusal)
         }
     }
 }

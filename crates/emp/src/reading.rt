@@ -4,7 +4,7 @@ use crate::comparing::mark_in;
 use crate::refusing::refuse_message;
 use envelope::flags::{is_compressed, is_encrypted, kind, time_is_absolute};
 use envelope::qos::split;
-use envelope::{Addressing, Envelope, Fault, Integrity, Numbers, Part, Reading, Refusal, read};
+use envelope::{Addressing, Envelope, Fault, Integrity, Refusal, read};
 use layout::layout_of;
 use wording::refusals::What;
 use wording::sides::{ADDRESSES, show_marked};
@@ -15,8 +15,8 @@ const SHOWN: usize = 256;
 
 pub fn read_message(teller: &Teller<'_, impl Print + Eprint>, message: &[u8]) -> Told {
     match read(message) {
-        Reading::Accepted(accepted) => show_message(teller, accepted, message),
-        Reading::Refused(refusal) => show_refused(teller, refusal, message),
+        Ok(accepted) => show_message(teller, accepted, message),
+        Err(refusal) => show_refused(teller, refusal, message),
     }
 }
 
@@ -42,7 +42,7 @@ fn mark_of(refusal: Refusal, message: &[u8]) -> u8 {
 }
 
 pub fn refuse_reading(teller: &Teller<'_, impl Print + Eprint>, refusal: Refusal) -> Told {
-    refuse_message(teller, What::Alone, Numbers::by_reading(refusal))
+    refuse_message(teller, What::Alone, refusal)
 }
 
 // What reading handed out of a message; plainly, one line.
@@ -89,46 +89,29 @@ fn show_addressing(
     accepted: Envelope,
     message: &[u8],
 ) -> Told {
-    match accepted.addressing {
-        Addressing::Absent => teller.tell(Status::Done, Row::Unrouted, &[0], message),
-        Addressing::Present {
-            ttl,
-            qos,
-            source,
-            destination,
-        } => {
-            show_routing(
-                teller,
-                variable_size(accepted.body.place),
-                ttl,
-                qos,
-                message,
-            )?;
-            show_ends(teller, source, destination, message)
-        }
-    }
-}
-
-// The variable header ends where the body begins.
-fn variable_size(body_place: usize) -> usize {
-    body_place.saturating_sub(Envelope::HEADER_SIZE)
+    let Some(addressing) = accepted.addressing else {
+        return teller.tell(Status::Done, Row::Unrouted, &[0], message);
+    };
+    // the variable header ends where the body begins
+    let variable = accepted.body.place.saturating_sub(Envelope::HEADER_SIZE);
+    show_routing(teller, variable, addressing, message)?;
+    show_ends(teller, addressing, message)
 }
 
 fn show_routing(
     teller: &Teller<'_, impl Print + Eprint>,
     variable: usize,
-    ttl: u16,
-    qos: u16,
+    addressing: Addressing,
     message: &[u8],
 ) -> Told {
-    let parts = split(qos);
+    let parts = split(addressing.qos);
     teller.tell(
         Status::Done,
         Row::Routed,
         &[
             variable as u64,
-            ttl as u64,
-            qos as u64,
+            addressing.ttl as u64,
+            addressing.qos as u64,
             parts.service_request as u64,
             parts.special_handling as u64,
             parts.network_preference as u64,
@@ -141,10 +124,14 @@ fn show_routing(
 
 fn show_ends(
     teller: &Teller<'_, impl Print + Eprint>,
-    source: Part,
-    destination: Part,
+    addressing: Addressing,
     message: &[u8],
 ) -> Told {
+    let Addressing {
+        source,
+        destination,
+        ..
+    } = addressing;
     teller.tell(
         Status::Done,
         Row::Ends,

@@ -4,7 +4,12 @@ use envelope::Numbers;
 use wording::refusals::{Subject, What};
 use wording::{Teller, Told};
 
-pub fn refuse_by(teller: &Teller<'_, impl Print + Eprint>, of: Subject, numbers: Numbers) -> Told {
+pub fn refuse(
+    teller: &Teller<'_, impl Print + Eprint>,
+    of: Subject,
+    refusal: impl Into<Numbers>,
+) -> Told {
+    let numbers: Numbers = refusal.into();
     teller.refuse(of, numbers.number, numbers.reading, numbers.place)
 }
 
@@ -12,7 +17,7 @@ pub fn refuse_by(teller: &Teller<'_, impl Print + Eprint>, of: Subject, numbers:
 pub fn refuse_message(
     teller: &Teller<'_, impl Print + Eprint>,
     what: What,
-    numbers: Numbers,
+    refusal: impl Into<Numbers>,
 ) -> Told {
-    refuse_by(teller, Subject::by_itself(what), numbers)
+    refuse(teller, Subject::by_itself(what), refusal)
 }

@@ -3,14 +3,13 @@
 use crate::events::{Event, Happening, event_in};
 use crate::fates::{list_fates, tell_totals};
 use crate::ledger::Ledger;
+use crate::pieces::{PIECE, read_piece};
 use crate::refusing::refuse_message;
-use crate::watching::PIECE;
-use console::errors::fail;
 use console::table::between;
-use sender::{Bench, Flight, Start};
-use std::io::{Input, Read};
+use sender::Bench;
+use std::io::Input;
 use wording::refusals::What;
-use wording::{Complained, Status, Teller, Told};
+use wording::{Status, Teller, Told};
 
 // No longer line is understood: a word, a blank, and the digits of a COMMID.
 const LINE: usize = 32;
@@ -33,11 +32,11 @@ pub struct Sending<'a, R> {
 
 pub fn send(teller: &Teller<'_, impl Input + Print + Eprint>, resends: u64) -> Told {
     match Bench::new(resends) {
-        Start::Ready(bench) => {
+        Ok(bench) => {
             let mut sending = Sending::new(teller, bench);
             sending.run()
         }
-        Start::Refused(refusal) => refuse_message(teller, What::Alone, refusal.numbers()),
+        Err(refusal) => refuse_message(teller, What::Alone, refusal),
     }
 }
 
@@ -60,42 +59,24 @@ impl<R: Input + Print + Eprint> Sending<'_, R> {
     // A proved loop has to end: no input uses up so many reads.
     fn run(&mut self) -> Told {
         let mut input = self.teller.rt.reader();
+        let mut room = [0u8; PIECE];
         for _ in 0..u64::MAX {
-            if !self.read_piece(&mut input)? {
+            let piece = read_piece(self.teller.rt, &mut input, &mut room)?;
+            if piece.is_empty() {
                 break;
             }
+            self.take_piece(piece)?;
         }
-        self.tell_fates()
+        self.end()
     }
 }
 
 impl<R: Print + Eprint> Sending<'_, R> {
-    // One read, which waits for a byte and no longer: what has come is answered before more is asked for. Whether the input goes on.
-    fn read_piece(&mut self, input: &mut impl Read) -> Told<bool> {
-        let mut piece = [0u8; PIECE];
-        match input.read(&mut piece) {
-            Ok(0) => self.take_last(),
-            Ok(size) => self.take_piece(&piece[..size]),
-            Err(error) => {
-                fail(self.teller.rt, b"emp: cannot read standard input", error);
-                Err(Complained)
-            }
-        }
-    }
-
-    // The last line may lack its line feed.
-    fn take_last(&mut self) -> Told<bool> {
-        if self.size != 0 {
-            self.take_line()?;
-        }
-        Ok(false)
-    }
-
-    fn take_piece(&mut self, piece: &[u8]) -> Told<bool> {
+    fn take_piece(&mut self, piece: &[u8]) -> Told<()> {
         for byte in piece {
             self.take_byte(*byte)?;
         }
-        Ok(true)
+        Ok(())
     }
 
     fn take_byte(&mut self, byte: u8) -> Told<()> {
@@ -129,22 +110,29 @@ impl<R: Print + Eprint> Sending<'_, R> {
     fn take_event(&mut self, event: Event) -> Told<()> {
         let commid = event.commid;
         let waiting = &mut self.waiting;
-        let step = match event.happening {
+        let answer = match event.happening {
             Happening::Submit => self.bench.submit(waiting, commid),
             Happening::Ack => self.bench.ack(waiting, commid),
             Happening::Nak => self.bench.nak(waiting, commid),
             Happening::TimeOut => self.bench.time_out(waiting, commid),
         };
-        self.bench = step.bench;
-        self.answered(step.answer, commid)
+        match answer {
+            Ok(answer) => self.answered(answer, commid),
+            Err(refusal) => self.refused(refusal, commid),
+        }
+    }
+
+    // The last line may lack its line feed.
+    fn end(&mut self) -> Told {
+        if self.size != 0 {
+            self.take_line()?;
+        }
+        self.tell_fates()
     }
 
     fn tell_fates(&self) -> Told {
         list_fates(self.teller, &self.ledger)?;
-        let in_flight = match self.bench.flight {
-            Flight::Idle => 0,
-            Flight::Busy { .. } => 1,
-        };
+        let in_flight = self.bench.flight.is_some() as u64;
         let waiting = self.bench.waiting(&self.waiting);
         tell_totals(self.teller, &self.ledger, waiting, in_flight, self.status)
     }

@@ -4,16 +4,13 @@ ghost use Rattle.std.specs.Prelude.{◌<◌, length};
 ghost use Rattle.emp.specs.Watching.{Onward};
 
 use crate::golden_files::check_file;
-use crate::refusing::refuse_by;
-use console::errors::fail;
-use feed::{Feed, Found, Refusal, Standing, advance, close, held};
-use golden::{Checking, check};
-use std::io::{Input, Read};
+use crate::pieces::{PIECE, read_piece};
+use crate::refusing::refuse;
+use feed::{Beside, Feed, Message, Refusal, advance, close, held};
+use golden::check;
+use std::io::Input;
 use wording::refusals::{Subject, What, Whole};
 use wording::{Complained, Status, Teller, Told};
-
-// The most bytes of a read.
-pub const PIECE: usize = 4_096;
 
 // A stream: what the feed keeps of it, and what went by.
 #[derive(Drop)]
@@ -22,8 +19,7 @@ pub struct Watch<'a, R> {
     // the golden file beside it, where one is named
     pub(crate) golden: Option<&'a [u8]>,
     kept: [u8; Feed::ROOM],
-    count: usize,
-    standing: Standing,
+    beside: Beside,
     // the messages and the bytes so far, which stay at the largest number if ever they come to it
     pub(crate) messages: u64,
     bytes: u64,
@@ -49,22 +45,22 @@ pub fn watch_alone(teller: &Teller<'_, impl Input + Print + Eprint>) -> Told {
 // A bad golden file is told before any byte of the stream is read.
 pub fn watch_beside(teller: &Teller<'_, impl Input + Print + Eprint>, golden: &[u8]) -> Told {
     match check(golden) {
-        Checking::Count(_) => {
+        Ok(_) => {
             let mut watch = Watch::new(teller, Some(golden));
             watch.run()
         }
-        _ => check_file(teller, golden),
+        Err(_) => check_file(teller, golden),
     }
 }
 
 impl<'a, R> Watch<'a, R> {
     fn new(teller: &'a Teller<'a, R>, golden: Option<&'a [u8]>) -> Watch<'a, R> {
+        let Feed { kept, beside } = Feed::new();
         Watch {
             teller,
             golden,
-            kept: [0; Feed::ROOM],
-            count: 0,
-            standing: Standing::Inside,
+            kept,
+            beside,
             messages: 0,
             bytes: 0,
             last: None,
@@ -73,32 +69,29 @@ impl<'a, R> Watch<'a, R> {
 }
 
 impl<R: Input + Print + Eprint> Watch<'_, R> {
-    // A proved loop has to end: no stream uses up so many reads.
     fn run(&mut self) -> Told {
-        let mut input = self.teller.rt.reader();
-        for _ in 0..u64::MAX {
-            if let Err(Ended(told)) = self.read_piece(&mut input) {
-                return told;
-            }
+        match self.take_all() {
+            Ok(()) => self.end(),
+            Err(Ended(told)) => told,
         }
-        self.end()
+    }
+
+    // A proved loop has to end: no stream uses up so many reads.
+    fn take_all(&mut self) -> Result<(), Ended> {
+        let mut input = self.teller.rt.reader();
+        let mut room = [0u8; PIECE];
+        for _ in 0..u64::MAX {
+            let piece = read_piece(self.teller.rt, &mut input, &mut room)?;
+            if piece.is_empty() {
+                break;
+            }
+            self.take_piece(piece)?;
+        }
+        Ok(())
     }
 }
 
 impl<R: Print + Eprint> Watch<'_, R> {
-    // One read, which waits for a byte and no longer: what has come is shown before more is asked for.
-    fn read_piece(&mut self, input: &mut impl Read) -> Result<(), Ended> {
-        let mut piece = [0u8; PIECE];
-        match input.read(&mut piece) {
-            Ok(0) => Err(Ended(self.end())),
-            Ok(size) => self.take_piece(&piece[..size]),
-            Err(error) => {
-                fail(self.teller.rt, b"emp: cannot read standard input", error);
-                Err(Ended(Err(Complained)))
-            }
-        }
-    }
-
     fn take_piece(&mut self, piece: &[u8]) -> Result<(), Ended> {
         let mut left = piece;
         while !left.is_empty() {
@@ -113,31 +106,30 @@ impl<R: Print + Eprint> Watch<'_, R> {
         requires { 0 < length piece.now }
         ensures { Onward (length piece.now) result }
     {
-        let step = advance(&mut self.kept, self.count, self.standing, piece);
-        self.count = step.count;
-        self.standing = step.standing;
+        let step = advance(&mut self.kept, self.beside, piece);
+        self.beside = step.beside;
         self.bytes = self.bytes.saturating_add(step.used as u64);
         match step.found {
-            Found::Nothing => Ok(step.used),
-            Found::Message { size: _, envelope } => {
+            Ok(None) => Ok(step.used),
+            Ok(Some(Message { envelope, .. })) => {
                 self.tell_message(envelope.header)?;
                 self.messages = self.messages.saturating_add(1);
                 self.last = Some(envelope.header.number);
                 Ok(step.used)
             }
-            Found::Refused(refusal) => Err(Ended(self.refuse(refusal))),
+            Err(refusal) => Err(Ended(self.refuse(refusal))),
         }
     }
 
     // The last message, until the next bytes are taken.
     pub(crate) fn message(&self) -> &[u8] {
-        held(&self.kept, self.count, self.standing)
+        held(&self.kept, self.beside)
     }
 
     fn end(&self) -> Told {
-        match close(self.count, self.standing).found {
-            Found::Refused(refusal) => self.refuse(refusal),
-            _ => Ok(Status::Done),
+        match close(self.beside).found {
+            Ok(_) => Ok(Status::Done),
+            Err(refusal) => self.refuse(refusal),
         }
     }
 
@@ -149,9 +141,9 @@ impl<R: Print + Eprint> Watch<'_, R> {
                 bytes: self.bytes,
             },
             whole: Whole::Stream {
-                from: self.bytes.wrapping_sub(self.count as u64),
+                from: self.bytes.wrapping_sub(self.beside.count as u64),
             },
         };
-        refuse_by(self.teller, of, refusal.numbers())
+        refuse(self.teller, of, refusal)
     }
 }

@@ -20,10 +20,7 @@ const FIELDS: usize = 15;
 pub const ADDRESSES: u8 = 15;
 
 // The numbers of a byte in a row: how it is shown, and the byte for each way that shows it.
-const CELL: usize = 3;
-
-// A way that shows nothing, not even the room.
-const NO_CELL: u64 = 4;
+const CELL_NUMBERS: usize = 3;
 
 // Where the numbers of a row begin that are the golden message's, the radio's and the fields', and how many there are.
 const GOLDEN: usize = 2;
@@ -33,6 +30,16 @@ const RADIO: usize = 26;
 const NAMES: usize = 50;
 
 const NUMBERS: usize = 65;
+
+// How a place is shown, in the order of the template's choices: last, of a side that is left out, not even the room.
+#[derive(Clone, Copy)]
+enum Cell {
+    Byte,
+    MarkedByte,
+    MarkedGap,
+    Gap,
+    Nothing,
+}
 
 // Two messages side by side, or one alone, of which the other side is left out.
 #[derive(Clone, Copy)]
@@ -177,16 +184,16 @@ impl Line<'_> {
             return self.name_number(k - NAMES);
         }
         if self.sides.alone {
-            return NO_CELL;
+            return Cell::Nothing as u64;
         }
         self.cell_number(self.sides.radio, k - RADIO)
     }
 
     fn cell_number(&self, message: &[u8], k: usize) -> u64 {
-        let column = k / CELL;
+        let column = k / CELL_NUMBERS;
         let place = self.place.wrapping_add(column);
-        if k % CELL == 0 {
-            return cell_of(place < message.len(), byte_at(self.marks, column) != 0);
+        if k % CELL_NUMBERS == 0 {
+            return cell_of(place < message.len(), byte_at(self.marks, column) != 0) as u64;
         }
         byte_at(message, place) as u64
     }
@@ -205,30 +212,17 @@ impl Line<'_> {
 
 // How many digits stand behind the first; no file that is taken has a place of more than five.
 fn further_digits(place: usize) -> u64 {
-    if place < 10 {
-        return 0;
-    }
-    if place < 100 {
-        return 1;
-    }
-    if place < 1_000 {
-        return 2;
-    }
-    if place < 10_000 {
-        return 3;
-    }
-    4
+    place.checked_ilog10().unwrap_or(0).min(4) as u64
 }
 
-// A byte, one in brackets, none where there is to be one, and none at all.
-fn cell_of(there: bool, marked: bool) -> u64 {
-    if there {
-        return marked as u64;
+// A byte that is there or not, in brackets or not.
+fn cell_of(there: bool, marked: bool) -> Cell {
+    match (there, marked) {
+        (true, false) => Cell::Byte,
+        (true, true) => Cell::MarkedByte,
+        (false, true) => Cell::MarkedGap,
+        (false, false) => Cell::Gap,
     }
-    if marked {
-        return 2;
-    }
-    3
 }
 
 // A byte that is not there counts as 0.
