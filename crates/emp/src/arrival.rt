@@ -1,99 +1,95 @@
 // The line of a message that has arrived: what it is, how it follows the one before, and the record of its type and number.
 // Rests on `envelope` for the sequence and on `golden` for the record; the line is written in one call.
-use crate::golden_files::{NamedRetired, retired_named};
-use crate::watching::{Stream, more};
+use crate::golden_files::retired_named;
+use crate::watching::Watch;
 use envelope::Header;
 use envelope::sequence::{Sequence, judge};
-use golden::{Comparison, Finding, Name, compare, find};
-use wording::{Manner, Status, rows, tell};
+use golden::{Found, Name, compare, find};
+use wording::{Row, Status, Told};
 
-// One of several words of a template, and the numbers that go with them.
+// How a message and its record go together: by the first the template chooses, and the others stand in its words.
 #[derive(Clone, Copy)]
-struct Wording {
-    words: u64,
+struct Beside {
+    choice: u64,
     record: usize,
-    number: u64,
+    differing: u64,
 }
 
-// The stream is as it was before this message.
-pub fn tell_message(
-    rt: &(impl Print + Eprint),
-    manner: Manner,
-    stream: Stream,
-    header: Header,
-    message: &[u8],
-    golden: &[u8],
-) -> Status {
-    let follows = follows_in(stream, header.number);
-    let beside = beside_in(stream, header, message, golden);
-    tell(
-        rt,
-        manner,
-        Status::Done,
-        rows::MESSAGE,
-        &[
-            more(stream.messages, 1),
-            header.message_type as u64,
-            header.number as u64,
-            message.len() as u64,
-            follows.words,
-            follows.number,
-            follows.number,
-            beside.words,
-            beside.record as u64,
-            beside.record as u64,
-            beside.number,
-            beside.record as u64,
-            beside.record as u64,
-        ],
-        message,
-    )
-}
-
-fn follows_in(stream: Stream, number: u32) -> Wording {
-    if stream.messages == 0 {
-        return worded(0, 0, 0);
-    }
-    match judge(stream.number, number) {
-        Sequence::Repeat => worded(1, 0, 0),
-        Sequence::Next => worded(2, 0, 0),
-        Sequence::Ahead(steps) => worded(3, 0, steps as u64),
-        Sequence::Behind(steps) => worded(4, 0, steps as u64),
+impl Beside {
+    fn new(choice: u64, record: usize, differing: u64) -> Beside {
+        Beside {
+            choice,
+            record,
+            differing,
+        }
     }
 }
 
-fn worded(words: u64, record: usize, number: u64) -> Wording {
-    Wording {
-        words,
-        record,
-        number,
+impl<R: Print + Eprint> Watch<'_, R> {
+    // What went by is still as it was before this message.
+    pub(crate) fn tell_message(&self, header: Header) -> Told {
+        let message = self.message();
+        let (choice, steps) = follows(self.last, header.number);
+        let beside = self.beside(header, message);
+        let record = beside.record as u64;
+        self.teller.tell(
+            Status::Done,
+            Row::Message,
+            &[
+                self.messages.saturating_add(1),
+                header.message_type as u64,
+                header.number as u64,
+                message.len() as u64,
+                choice,
+                steps,
+                steps,
+                beside.choice,
+                record,
+                record,
+                beside.differing,
+                record,
+                record,
+            ],
+            message,
+        )
+    }
+
+    // The golden file was checked, so a record is found, or no live one has that type and number; one that is retired may.
+    fn beside(&self, header: Header, message: &[u8]) -> Beside {
+        let Some(golden) = self.golden else {
+            return Beside::new(0, 0, 0);
+        };
+        let name = Name {
+            message_type: header.message_type,
+            number: header.number,
+        };
+        match find(golden, name) {
+            Ok(Found { record, .. }) => compared_with(message, golden, record),
+            Err(_) => match retired_named(golden, name) {
+                Some(record) => Beside::new(5, record, 0),
+                None => Beside::new(1, 0, 0),
+            },
+        }
     }
 }
 
-// The golden file was checked, so a record is found, or no live one has that type and number; one that is retired may.
-fn beside_in(stream: Stream, header: Header, message: &[u8], golden: &[u8]) -> Wording {
-    if !stream.beside {
-        return worded(0, 0, 0);
-    }
-    let name = Name {
-        message_type: header.message_type,
-        number: header.number,
-    };
-    match find(golden, name) {
-        Finding::Found { record, opened: _ } => compared_with(message, golden, record),
-        _ => match retired_named(golden, name) {
-            NamedRetired::At(record) => worded(5, record, 0),
-            NamedRetired::Nowhere => worded(1, 0, 0),
-        },
+// The template's choice of how a message follows the last one, and how many steps ahead or behind.
+fn follows(last: Option<u32>, number: u32) -> (u64, u64) {
+    match last.map(|last| judge(last, number)) {
+        None => (0, 0),
+        Some(Sequence::Repeat) => (1, 0),
+        Some(Sequence::Next) => (2, 0),
+        Some(Sequence::Ahead(steps)) => (3, steps as u64),
+        Some(Sequence::Behind(steps)) => (4, steps as u64),
     }
 }
 
 // Of the places only their total is told. Other answers are not met: the record is good and live, and the message was read.
-fn compared_with(message: &[u8], golden: &[u8], record: usize) -> Wording {
+fn compared_with(message: &[u8], golden: &[u8], record: usize) -> Beside {
     let mut places = [0u32; 1];
     match compare(golden, record, message, &mut places) {
-        Comparison::Same => worded(2, record, 0),
-        Comparison::Different(total) => worded(3, record, total as u64),
-        _ => worded(4, record, 0),
+        Ok(0) => Beside::new(2, record, 0),
+        Ok(total) => Beside::new(3, record, total as u64),
+        Err(_) => Beside::new(4, record, 0),
     }
 }

@@ -1,105 +1,69 @@
 // Compare: a golden record with a radio's message, and where they differ.
 // Rests on `golden`, which reads both messages, compares them and lists the places, and on `layout` for the fields; here neither is read again.
-use crate::refusing::refuse_by;
-use golden::{Comparison, Record, Refusal, compare, stored_message};
+use crate::refusing::refuse;
+use golden::{Record, Refusal, compare, stored_message};
 use layout::{Layout, field_at, layout_of};
-use std::num::wrapping_add_u8;
-use wording::refusals::{ALONE, NOT_OF_WHOLE, OF_FILE, Subject};
+use wording::refusals::{Subject, What, Whole};
 use wording::sides::show_difference;
-use wording::{Manner, Status, rows, tell};
+use wording::{Row, Status, Teller, Told};
 
 // What the list of places holds where no place was put: a place that no message has.
 const NOWHERE: u32 = 4_294_967_295;
 
 pub fn compare_record(
-    rt: &(impl Print + Eprint),
-    manner: Manner,
+    teller: &Teller<'_, impl Print + Eprint>,
     file: &[u8],
     record: usize,
     radio: &[u8],
-) -> Status {
+) -> Told {
     let mut places = [NOWHERE; Record::SIZE];
     let part = stored_message(file, record);
     match compare(file, record, radio, &mut places) {
-        Comparison::Same => tell(
-            rt,
-            manner,
-            Status::Done,
-            rows::SAME,
-            &[radio.len() as u64],
-            radio,
-        ),
-        Comparison::Different(total) => differ(rt, manner, part.slice(file), radio, total, &places),
-        Comparison::Refused(refusal) => refuse_comparing(rt, manner, refusal, part.place),
+        Ok(0) => teller.tell(Status::Done, Row::Same, &[radio.len() as u64], radio),
+        Ok(total) => {
+            let golden = part.slice(file);
+            let marks = marks_of(golden, radio, &places);
+            show_difference(teller, golden, radio, total, &marks)
+        }
+        Err(refusal) => refuse_comparing(teller, refusal, part.place),
     }
 }
 
 // The radio's message is no part of the golden file; the record's begins there at a place.
 fn refuse_comparing(
-    rt: &(impl Print + Eprint),
-    manner: Manner,
+    teller: &Teller<'_, impl Print + Eprint>,
     refusal: Refusal,
     place: usize,
-) -> Status {
-    let of = Subject {
-        what: ALONE,
-        number: 0,
-        further: 0,
-        whole: whole_of(refusal),
-        from: place as u64,
+) -> Told {
+    let whole = match refusal {
+        Refusal::RadioRefused(_) => Whole::Other,
+        _ => Whole::File { from: place as u64 },
     };
-    refuse_by(rt, manner, of, refusal.numbers())
-}
-
-fn whole_of(refusal: Refusal) -> u64 {
-    match refusal {
-        Refusal::RadioRefused(_) => NOT_OF_WHOLE,
-        _ => OF_FILE,
-    }
-}
-
-fn differ(
-    rt: &(impl Print + Eprint),
-    manner: Manner,
-    golden: &[u8],
-    radio: &[u8],
-    total: usize,
-    places: &[u32; Record::SIZE],
-) -> Status {
-    let marks = marks_of(layout_of(golden), golden.len(), layout_of(radio), places);
-    show_difference(rt, manner, golden, radio, total, &marks)
+    let what = What::Alone;
+    refuse(teller, Subject { what, whole }, refusal)
 }
 
 // A mark for each place that is listed and shown.
-fn marks_of(
-    golden: Layout,
-    golden_size: usize,
-    radio: Layout,
-    places: &[u32; Record::SIZE],
-) -> [u8; Record::SIZE] {
+fn marks_of(golden: &[u8], radio: &[u8], places: &[u32; Record::SIZE]) -> [u8; Record::SIZE] {
+    let of_golden = layout_of(golden);
+    let of_radio = layout_of(radio);
     let mut marks = [0u8; Record::SIZE];
-    for k in 0..Record::SIZE {
-        let place = listed(places[k]);
+    for place in places {
+        let place = *place as usize;
+        // by the golden message where it has that place, and else by the radio's
+        let layout = if place < golden.len() {
+            of_golden
+        } else {
+            of_radio
+        };
         if place < Record::SIZE {
-            marks[place] = mark_of(golden, golden_size, radio, place);
+            marks[place] = mark_in(layout, place);
         }
     }
     marks
 }
 
-fn listed(place: u32) -> usize {
-    place as usize
-}
-
-// By the golden message where it has that place, and else by the radio's.
-fn mark_of(golden: Layout, golden_size: usize, radio: Layout, place: usize) -> u8 {
-    if place < golden_size {
-        return mark_in(golden, place);
-    }
-    mark_in(radio, place)
-}
-
 // The mark of a place: one more than the order of its field.
 pub fn mark_in(layout: Layout, place: usize) -> u8 {
-    wrapping_add_u8(field_at(layout, place).order(), 1)
+    u8::from(field_at(layout, place)).wrapping_add(1)
 }

@@ -5,37 +5,48 @@ use console::table::{piece, pieces, row_named};
 
 const BLANK: u8 = b' ';
 
-const LARGEST_COMMID: u64 = 4_294_967_295;
+// One row for each of what may happen, in their order.
+const WORDS: &[u8] = b"submit\nack\nnak\ntimeout\n";
 
 #[derive(Clone, Copy)]
-pub enum Event {
-    Submit(u32),
-    Ack(u32),
-    Nak(u32),
-    TimeOut(u32),
-    Unknown,
+pub enum Happening {
+    Submit,
+    Ack,
+    Nak,
+    TimeOut,
 }
 
-pub fn event_in(line: &[u8]) -> Event {
+// A row that the table has not.
+#[derive(Clone, Copy)]
+pub struct NoRow;
+
+impl TryFrom<usize> for Happening {
+    type Error = NoRow;
+
+    fn try_from(row: usize) -> Result<Happening, NoRow> {
+        match row {
+            0 => Ok(Happening::Submit),
+            1 => Ok(Happening::Ack),
+            2 => Ok(Happening::Nak),
+            3 => Ok(Happening::TimeOut),
+            _ => Err(NoRow),
+        }
+    }
+}
+
+#[derive(Clone, Copy)]
+pub struct Event {
+    pub happening: Happening,
+    pub commid: u32,
+}
+
+// None of a line that is not understood.
+pub fn event_in(line: &[u8]) -> Option<Event> {
     if pieces(line, BLANK) != 2 {
-        return Event::Unknown;
+        return None;
     }
-    match decimal_of(piece(line, BLANK, 1), LARGEST_COMMID) {
-        Some(n) => event_named(
-            piece(line, BLANK, 0),
-            (n % (LARGEST_COMMID + 1)) as u32,
-            b"submit\nack\nnak\ntimeout\n",
-        ),
-        None => Event::Unknown,
-    }
-}
-
-fn event_named(word: &[u8], commid: u32, words: &[u8]) -> Event {
-    match row_named(words, BLANK, word) {
-        0 => Event::Submit(commid),
-        1 => Event::Ack(commid),
-        2 => Event::Nak(commid),
-        3 => Event::TimeOut(commid),
-        _ => Event::Unknown,
-    }
+    let number = decimal_of(piece(line, BLANK, 1), u32::MAX as u64)?;
+    let commid = u32::try_from(number).ok()?;
+    let happening = Happening::try_from(row_named(WORDS, BLANK, piece(line, BLANK, 0))).ok()?;
+    Some(Event { happening, commid })
 }

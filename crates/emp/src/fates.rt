@@ -1,81 +1,25 @@
-// What became of each submission, told at the end: those that have ended, by the ledger, the one in flight, and those that wait.
-// Rests on the order that `sender` keeps: submissions go out and end in the order in which they were accepted.
-use crate::answering::Book;
-use crate::ledger::{Entry, ROOM, entry_at};
-use crate::sending::Sending;
-use sender::{Bench, Flight};
-use std::num::{wrapping_add_usize, wrapping_sub_usize};
-use wording::{Manner, Status, rows, tell};
+// What became of each submission, told at the end, and how many became what.
+// Rests on the ledger.
+use crate::ledger::{Entry, Fate, Ledger, ROOM};
+use wording::{Row, Status, Teller, Told};
 
-// The fates, by the template's choices.
-const WAITING: u64 = 0;
-
-const IN_FLIGHT: u64 = 1;
-
-const ACKNOWLEDGED: u64 = 2;
-
-const FAILED: u64 = 3;
-
-pub fn tell_fates(
-    rt: &(impl Print + Eprint),
-    manner: Manner,
-    waiting: &[u32; Bench::PLACES],
-    ledger: &[u64; ROOM],
-    sending: Sending,
-) -> Status {
-    let bench = sending.bench;
-    let book = sending.book;
-    if book.stopped {
-        return Status::Complained;
+// Each that the ledger holds, a line each.
+pub fn list_fates(teller: &Teller<'_, impl Print + Eprint>, ledger: &Ledger) -> Told {
+    for (k, entry) in ledger.entries().iter().enumerate() {
+        tell_fate(teller, k, *entry)?;
     }
-    if list_fates(rt, manner, ledger, book).is_complaint() {
-        return Status::Complained;
-    }
-    tell_totals(rt, manner, book, bench.waiting(waiting), in_flight(bench))
+    Ok(Status::Done)
 }
 
-fn list_fates(
-    rt: &(impl Print + Eprint),
-    manner: Manner,
-    ledger: &[u64; ROOM],
-    book: Book,
-) -> Status {
-    let listed = listed_of(book);
-    let mut k = 0;
-    while k < listed {
-        if tell_fate(rt, manner, ledger, book, k).is_complaint() {
-            return Status::Complained;
-        }
-        k += 1;
-    }
-    Status::Done
-}
-
-fn listed_of(book: Book) -> usize {
-    if ROOM < book.accepted {
-        return ROOM;
-    }
-    book.accepted
-}
-
-fn tell_fate(
-    rt: &(impl Print + Eprint),
-    manner: Manner,
-    ledger: &[u64; ROOM],
-    book: Book,
-    k: usize,
-) -> Status {
-    let of = entry_at(ledger, k);
-    let times = times_of(of, book, k);
-    tell(
-        rt,
-        manner,
+fn tell_fate(teller: &Teller<'_, impl Print + Eprint>, k: usize, entry: Entry) -> Told {
+    let times = entry.fate.times() as u64;
+    teller.tell(
         Status::Done,
-        rows::SUBMISSION,
+        Row::Submission,
         &[
-            wrapping_add_usize(k, 1) as u64,
-            of.commid,
-            fate_of(of, book, k),
+            k.wrapping_add(1) as u64,
+            entry.commid as u64,
+            choice_of(entry.fate),
             times,
             times,
             times,
@@ -84,62 +28,36 @@ fn tell_fate(
     )
 }
 
-fn fate_of(of: Entry, book: Book, k: usize) -> u64 {
-    if book.ended < k {
-        return WAITING;
+// The template's choice.
+fn choice_of(fate: Fate) -> u64 {
+    match fate {
+        Fate::Waiting => 0,
+        Fate::InFlight { .. } => 1,
+        Fate::Acknowledged { .. } => 2,
+        Fate::Failed { .. } => 3,
     }
-    if book.ended == k {
-        return IN_FLIGHT;
-    }
-    if of.failed {
-        return FAILED;
-    }
-    ACKNOWLEDGED
 }
 
-fn times_of(of: Entry, book: Book, k: usize) -> u64 {
-    if book.ended == k {
-        return book.times as u64;
-    }
-    of.times
-}
-
-fn tell_totals(
-    rt: &(impl Print + Eprint),
-    manner: Manner,
-    book: Book,
+// Of those that have not ended so many wait, and so many are in flight. Whether something went amiss is the status.
+pub fn tell_totals(
+    teller: &Teller<'_, impl Print + Eprint>,
+    ledger: &Ledger,
     waiting: usize,
     in_flight: u64,
-) -> Status {
-    tell(
-        rt,
-        manner,
-        status_of(book),
-        rows::TOTALS,
+    status: Status,
+) -> Told {
+    teller.tell(
+        status,
+        Row::Totals,
         &[
-            book.accepted as u64,
+            ledger.accepted as u64,
             waiting as u64,
             in_flight,
-            book.acknowledged as u64,
-            wrapping_sub_usize(book.ended, book.acknowledged) as u64,
-            (ROOM < book.accepted) as u64,
+            ledger.acknowledged as u64,
+            ledger.ended.wrapping_sub(ledger.acknowledged) as u64,
+            (ROOM < ledger.accepted) as u64,
             ROOM as u64,
         ],
         b"",
     )
-}
-
-fn status_of(book: Book) -> Status {
-    if book.amiss {
-        return Status::Refused;
-    }
-    Status::Done
-}
-
-fn in_flight(bench: Bench) -> u64 {
-    let flight = bench.flight;
-    match flight {
-        Flight::Idle => 0,
-        Flight::Busy { commid: _, left: _ } => 1,
-    }
 }

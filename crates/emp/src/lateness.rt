@@ -2,97 +2,77 @@
 // Rests on `envelope`, which reads the message and judges it.
 use crate::reading::refuse_reading;
 use envelope::lateness::{Lateness, judge};
-use envelope::{Addressing, Envelope, Reading, read};
-use std::num::{wrapping_add_u64, wrapping_sub_u64};
-use wording::{Manner, Status, rows, tell};
-
-// The parts of the choice in the template.
-const IN_TIME: u64 = 0;
-
-const LATE: u64 = 1;
-
-const ABSENT: u64 = 2;
-
-const ZERO: u64 = 3;
-
-const IN_TIME_FOR_LONG: u64 = 4;
+use envelope::{Addressing, Envelope, read};
+use wording::{Row, Status, Teller, Told};
 
 const TEN: u64 = 10;
+
+// The parts of the choice in the template, in its order.
+#[derive(Clone, Copy)]
+enum Part {
+    InTime,
+    Late,
+    Absent,
+    Zero,
+    InTimeForLong,
+}
 
 // What is told: which part of the choice, its seconds, of which the last digit may stand apart, and whether the clock is before the entry.
 #[derive(Clone, Copy)]
 struct Seconds {
-    part: u64,
+    part: Part,
     seconds: u64,
     last: u64,
     before: bool,
 }
 
 pub fn late_message(
-    rt: &(impl Print + Eprint),
-    manner: Manner,
+    teller: &Teller<'_, impl Print + Eprint>,
     message: &[u8],
     entry: u64,
     clock: u64,
-) -> Status {
+) -> Told {
     match read(message) {
-        Reading::Accepted(accepted) => tell_lateness(rt, manner, accepted, entry, clock, message),
-        Reading::Refused(refusal) => refuse_reading(rt, manner, refusal),
+        Ok(accepted) => tell_lateness(teller, accepted, entry, clock, message),
+        Err(refusal) => refuse_reading(teller, refusal),
     }
 }
 
 fn tell_lateness(
-    rt: &(impl Print + Eprint),
-    manner: Manner,
+    teller: &Teller<'_, impl Print + Eprint>,
     accepted: Envelope,
     entry: u64,
     clock: u64,
     message: &[u8],
-) -> Status {
+) -> Told {
     let addressing = accepted.addressing;
-    let ttl = ttl_of(addressing);
+    let ttl = addressing.map_or(0, |addressing| addressing.ttl as u64);
     match judge(accepted, entry, clock) {
         Lateness::InTime => {
             let left = left_of(entry, ttl, clock);
-            tell_seconds(rt, manner, Status::Done, left, message)
+            tell_seconds(teller, Status::Done, left, message)
         }
         Lateness::Late => {
-            let past = wrapping_sub_u64(wrapping_sub_u64(clock, entry), ttl);
-            tell_seconds(rt, manner, Status::Refused, few(LATE, past, false), message)
+            let past = clock.wrapping_sub(entry).wrapping_sub(ttl);
+            let past = few(Part::Late, past, false);
+            tell_seconds(teller, Status::Refused, past, message)
         }
         Lateness::NoClock => {
-            tell_seconds(
-                rt,
-                manner,
-                Status::Refused,
-                few(reason_of(addressing), 0, false),
-                message,
-            )
+            let none = few(reason_of(addressing), 0, false);
+            tell_seconds(teller, Status::Refused, none, message)
         }
-    }
-}
-
-fn ttl_of(addressing: Addressing) -> u64 {
-    match addressing {
-        Addressing::Absent => 0,
-        Addressing::Present {
-            ttl,
-            qos: _,
-            source: _,
-            destination: _,
-        } => ttl as u64,
     }
 }
 
 // Why there is no clock.
-fn reason_of(addressing: Addressing) -> u64 {
+fn reason_of(addressing: Option<Addressing>) -> Part {
     match addressing {
-        Addressing::Absent => ABSENT,
-        _ => ZERO,
+        None => Part::Absent,
+        Some(_) => Part::Zero,
     }
 }
 
-fn few(part: u64, seconds: u64, before: bool) -> Seconds {
+fn few(part: Part, seconds: u64, before: bool) -> Seconds {
     Seconds {
         part,
         seconds,
@@ -103,12 +83,12 @@ fn few(part: u64, seconds: u64, before: bool) -> Seconds {
 
 // The seconds up to entry + TTL. With a clock far before the entry they are past the type, and go by their last digit and what is before it.
 fn left_of(entry: u64, ttl: u64, clock: u64) -> Seconds {
-    let left = wrapping_sub_u64(wrapping_add_u64(entry, ttl), clock);
+    let left = entry.wrapping_add(ttl).wrapping_sub(clock);
     if entry <= clock {
-        return few(IN_TIME, left, false);
+        return few(Part::InTime, left, false);
     }
     if ttl <= left {
-        return few(IN_TIME, left, true);
+        return few(Part::InTime, left, true);
     }
     many(entry - clock, ttl)
 }
@@ -116,7 +96,7 @@ fn left_of(entry: u64, ttl: u64, clock: u64) -> Seconds {
 fn many(before: u64, ttl: u64) -> Seconds {
     let ones = before % TEN + ttl % TEN;
     Seconds {
-        part: IN_TIME_FOR_LONG,
+        part: Part::InTimeForLong,
         seconds: before / TEN + ttl / TEN + ones / TEN,
         last: ones % TEN,
         before: true,
@@ -124,20 +104,17 @@ fn many(before: u64, ttl: u64) -> Seconds {
 }
 
 fn tell_seconds(
-    rt: &(impl Print + Eprint),
-    manner: Manner,
+    teller: &Teller<'_, impl Print + Eprint>,
     status: Status,
     told: Seconds,
     message: &[u8],
-) -> Status {
+) -> Told {
     let seconds = told.seconds;
-    tell(
-        rt,
-        manner,
+    teller.tell(
         status,
-        rows::LATENESS,
+        Row::Lateness,
         &[
-            told.part,
+            told.part as u64,
             seconds,
             seconds,
             seconds,

@@ -1,257 +1,139 @@
 // Send: events from standard input, a line each, answered the moment the line is in; at the end what became of each submission.
 // Rests on `sender`, which decides every answer; of the events no more is held than one read, one line and the ledger.
-use crate::answering::{Book, answered, not_understood, stopped};
-use crate::events::{Event, event_in};
-use crate::fates::tell_fates;
-use crate::ledger::ROOM;
+use crate::events::{Event, Happening, event_in};
+use crate::fates::{list_fates, tell_totals};
+use crate::ledger::Ledger;
+use crate::pieces::{PIECE, read_piece};
 use crate::refusing::refuse_message;
-use crate::watching::{PIECE, more};
-use console::errors::fail;
 use console::table::between;
-use sender::{Bench, Start, Step};
-use std::io::{Input, Read};
-use std::num::wrapping_add_usize;
-use wording::refusals::ALONE;
-use wording::{Manner, Status};
+use sender::Bench;
+use std::io::Input;
+use wording::refusals::What;
+use wording::{Status, Teller, Told};
 
 // No longer line is understood: a word, a blank, and the digits of a COMMID.
 const LINE: usize = 32;
 
-// How far it is.
-#[derive(Clone, Copy)]
-pub struct Sending {
-    pub bench: Bench,
-    pub book: Book,
+// A run: what the sender keeps, the line that is on its way, and what is told at the end.
+#[derive(Drop)]
+pub struct Sending<'a, R> {
+    pub(crate) teller: &'a Teller<'a, R>,
+    bench: Bench,
+    waiting: [u32; Bench::PLACES],
+    // fixed memory: the line's first bytes, and how many it has
+    line: [u8; LINE],
+    size: usize,
+    // the lines so far, which stay at the largest number if ever they come to it
+    pub(crate) lines: u64,
+    pub(crate) ledger: Ledger,
+    // refused, once a line was refused or not understood or a message failed
+    pub(crate) status: Status,
 }
 
-pub fn send(rt: &(impl Input + Print + Eprint), manner: Manner, resends: u64) -> Status {
+pub fn send(teller: &Teller<'_, impl Input + Print + Eprint>, resends: u64) -> Told {
     match Bench::new(resends) {
-        Start::Ready(bench) => send_from(rt, manner, bench),
-        Start::Refused(refusal) => refuse_message(rt, manner, ALONE, refusal.numbers()),
-    }
-}
-
-// A proved loop has to end, so it counts its reads down, from a number that no input uses up; there it would end as the input does.
-fn send_from(rt: &(impl Input + Print + Eprint), manner: Manner, bench: Bench) -> Status {
-    let mut input = rt.reader();
-    let mut waiting = [0u32; Bench::PLACES];
-    let mut line = [0u8; LINE];
-    let mut ledger = [0u64; ROOM];
-    let mut sending = Sending {
-        bench,
-        book: new_book(),
-    };
-    let mut reads = u64::MAX;
-    while reads > 0 {
-        sending = read_piece(
-            rt,
-            &mut input,
-            manner,
-            &mut waiting,
-            &mut line,
-            &mut ledger,
-            sending,
-        );
-        if is_over(sending) {
-            return tell_fates(rt, manner, &waiting, &ledger, sending);
+        Ok(bench) => {
+            let mut sending = Sending::new(teller, bench);
+            sending.run()
         }
-        reads -= 1;
-    }
-    tell_fates(rt, manner, &waiting, &ledger, sending)
-}
-
-fn new_book() -> Book {
-    Book {
-        lines: 0,
-        size: 0,
-        accepted: 0,
-        ended: 0,
-        acknowledged: 0,
-        times: 0,
-        amiss: false,
-        stopped: false,
-        over: false,
+        Err(refusal) => refuse_message(teller, What::Alone, refusal),
     }
 }
 
-fn is_over(sending: Sending) -> bool {
-    let book = sending.book;
-    book.over
-}
-
-// One read, which waits for a byte and no longer: what has come is answered before more is asked for.
-fn read_piece(
-    rt: &(impl Print + Eprint),
-    input: &mut impl Read,
-    manner: Manner,
-    waiting: &mut [u32; Bench::PLACES],
-    line: &mut [u8; LINE],
-    ledger: &mut [u64; ROOM],
-    before: Sending,
-) -> Sending {
-    let mut piece = [0u8; PIECE];
-    match input.read(&mut piece) {
-        Ok(0) => take_last(rt, manner, waiting, line, ledger, before),
-        Ok(size) => take_piece(rt, manner, waiting, line, ledger, before, &piece[..size]),
-        Err(error) => {
-            fail(rt, b"emp: cannot read standard input", error);
-            with_book(before, stopped(before.book))
+impl<'a, R> Sending<'a, R> {
+    fn new(teller: &'a Teller<'a, R>, bench: Bench) -> Sending<'a, R> {
+        Sending {
+            teller,
+            bench,
+            waiting: [0; Bench::PLACES],
+            line: [0; LINE],
+            size: 0,
+            lines: 0,
+            ledger: Ledger::new(),
+            status: Status::Done,
         }
     }
 }
 
-fn with_book(before: Sending, book: Book) -> Sending {
-    let bench = before.bench;
-    Sending { bench, book }
-}
-
-// The last line may lack its line feed.
-fn take_last(
-    rt: &(impl Print + Eprint),
-    manner: Manner,
-    waiting: &mut [u32; Bench::PLACES],
-    line: &mut [u8; LINE],
-    ledger: &mut [u64; ROOM],
-    before: Sending,
-) -> Sending {
-    let book = before.book;
-    if book.size == 0 {
-        return at_end(before);
-    }
-    at_end(take_line(rt, manner, waiting, line, ledger, before))
-}
-
-fn at_end(before: Sending) -> Sending {
-    let mut book = before.book;
-    book.over = true;
-    with_book(before, book)
-}
-
-fn take_piece(
-    rt: &(impl Print + Eprint),
-    manner: Manner,
-    waiting: &mut [u32; Bench::PLACES],
-    line: &mut [u8; LINE],
-    ledger: &mut [u64; ROOM],
-    before: Sending,
-    piece: &[u8],
-) -> Sending {
-    let mut sending = before;
-    let mut i = 0;
-    while i < piece.len() {
-        sending = take_byte(rt, manner, waiting, line, ledger, sending, piece[i]);
-        i += 1;
-    }
-    sending
-}
-
-// Once an answer could not be written, nothing more is done.
-fn take_byte(
-    rt: &(impl Print + Eprint),
-    manner: Manner,
-    waiting: &mut [u32; Bench::PLACES],
-    line: &mut [u8; LINE],
-    ledger: &mut [u64; ROOM],
-    before: Sending,
-    byte: u8,
-) -> Sending {
-    let mut book = before.book;
-    if book.over {
-        return before;
-    }
-    if byte == b'\n' {
-        return take_line(rt, manner, waiting, line, ledger, before);
-    }
-    let size = book.size;
-    if size < LINE {
-        line[size] = byte;
-    }
-    book.size = wrapping_add_usize(size, 1);
-    with_book(before, book)
-}
-
-fn take_line(
-    rt: &(impl Print + Eprint),
-    manner: Manner,
-    waiting: &mut [u32; Bench::PLACES],
-    line: &mut [u8; LINE],
-    ledger: &mut [u64; ROOM],
-    before: Sending,
-) -> Sending {
-    let mut book = before.book;
-    let size = book.size;
-    book.lines = more(book.lines, 1);
-    book.size = 0;
-    if LINE < size {
-        return with_book(before, not_understood(rt, manner, book));
-    }
-    let event = event_in(between(line, 0, size));
-    take_event(rt, manner, waiting, ledger, with_book(before, book), event)
-}
-
-fn take_event(
-    rt: &(impl Print + Eprint),
-    manner: Manner,
-    waiting: &mut [u32; Bench::PLACES],
-    ledger: &mut [u64; ROOM],
-    before: Sending,
-    event: Event,
-) -> Sending {
-    let bench = before.bench;
-    let book = before.book;
-    match event {
-        Event::Submit(commid) => {
-            take_step(
-                rt,
-                manner,
-                ledger,
-                book,
-                bench.submit(waiting, commid),
-                commid,
-            )
+impl<R: Input + Print + Eprint> Sending<'_, R> {
+    // A proved loop has to end: no input uses up so many reads.
+    fn run(&mut self) -> Told {
+        let mut input = self.teller.rt.reader();
+        let mut room = [0u8; PIECE];
+        for _ in 0..u64::MAX {
+            let piece = read_piece(self.teller.rt, &mut input, &mut room)?;
+            if piece.is_empty() {
+                break;
+            }
+            self.take_piece(piece)?;
         }
-        Event::Ack(commid) => take_step(
-            rt,
-            manner,
-            ledger,
-            book,
-            bench.ack(waiting, commid),
-            commid,
-        ),
-        Event::Nak(commid) => take_step(
-            rt,
-            manner,
-            ledger,
-            book,
-            bench.nak(waiting, commid),
-            commid,
-        ),
-        Event::TimeOut(commid) => {
-            take_step(
-                rt,
-                manner,
-                ledger,
-                book,
-                bench.time_out(waiting, commid),
-                commid,
-            )
-        }
-        Event::Unknown => with_book(before, not_understood(rt, manner, book)),
+        self.end()
     }
 }
 
-fn take_step(
-    rt: &(impl Print + Eprint),
-    manner: Manner,
-    ledger: &mut [u64; ROOM],
-    book: Book,
-    step: Step,
-    commid: u32,
-) -> Sending {
-    let bench = step.bench;
-    let answer = step.answer;
-    Sending {
-        bench,
-        book: answered(rt, manner, ledger, book, answer, commid),
+impl<R: Print + Eprint> Sending<'_, R> {
+    fn take_piece(&mut self, piece: &[u8]) -> Told<()> {
+        for byte in piece {
+            self.take_byte(*byte)?;
+        }
+        Ok(())
+    }
+
+    fn take_byte(&mut self, byte: u8) -> Told<()> {
+        if byte == b'\n' {
+            return self.take_line();
+        }
+        if self.size < LINE {
+            self.line[self.size] = byte;
+        }
+        self.size = self.size.wrapping_add(1);
+        Ok(())
+    }
+
+    fn take_line(&mut self) -> Told<()> {
+        let event = self.event();
+        self.lines = self.lines.saturating_add(1);
+        self.size = 0;
+        match event {
+            Some(event) => self.take_event(event),
+            None => self.not_understood(),
+        }
+    }
+
+    fn event(&self) -> Option<Event> {
+        if LINE < self.size {
+            return None;
+        }
+        event_in(between(&self.line, 0, self.size))
+    }
+
+    fn take_event(&mut self, event: Event) -> Told<()> {
+        let commid = event.commid;
+        let waiting = &mut self.waiting;
+        let answer = match event.happening {
+            Happening::Submit => self.bench.submit(waiting, commid),
+            Happening::Ack => self.bench.ack(waiting, commid),
+            Happening::Nak => self.bench.nak(waiting, commid),
+            Happening::TimeOut => self.bench.time_out(waiting, commid),
+        };
+        match answer {
+            Ok(answer) => self.answered(answer, commid),
+            Err(refusal) => self.refused(refusal, commid),
+        }
+    }
+
+    // The last line may lack its line feed.
+    fn end(&mut self) -> Told {
+        if self.size != 0 {
+            self.take_line()?;
+        }
+        self.tell_fates()
+    }
+
+    fn tell_fates(&self) -> Told {
+        list_fates(self.teller, &self.ledger)?;
+        let in_flight = self.bench.flight.is_some() as u64;
+        let waiting = self.bench.waiting(&self.waiting);
+        tell_totals(self.teller, &self.ledger, waiting, in_flight, self.status)
     }
 }

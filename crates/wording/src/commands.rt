@@ -1,223 +1,86 @@
 // A command with its numbers, out of the words that the tool is called with, before any file is opened.
-// Rests on `console` for tables and numbers, and on `arguments`; the table of commands is lent.
-use crate::arguments::{BLANK, Given, NAMES, WORD, word_at};
-use crate::rows;
-use crate::status::Status;
-use crate::telling::{Manner, complain};
+// Rests on `console` for tables and numbers, and on `arguments`.
+use crate::arguments::{BLANK, Given, NoRow, OPTIONS, WORD, word_at};
+use crate::rows::Row;
+use crate::status::{Complained, Told};
+use crate::telling::complain;
 use console::decimal::decimal_of;
 use console::files::is_standard_input;
 use console::nearest::nearest;
 use console::table::{piece, pieces, row, row_named};
 use std::env::Env;
-use std::num::wrapping_add_usize;
 
-pub const TAB: u8 = b'\t';
+pub(crate) const TAB: u8 = b'\t';
 
-// The rows of the table of commands.
-pub const LIST: usize = 0;
-
-pub const CHECK: usize = 1;
-
-pub const FIND: usize = 2;
-
-pub const COMPARE: usize = 3;
-
-pub const READ: usize = 4;
-
-pub const JUDGE: usize = 5;
-
-pub const LATE: usize = 6;
-
-pub const SUM: usize = 7;
-
-pub const MAKE: usize = 8;
-
-pub const RETIRE: usize = 9;
-
-pub const UNWRAP: usize = 10;
-
-pub const WRAP: usize = 11;
-
-pub const ACKNOWLEDGE: usize = 12;
-
-pub const WATCH: usize = 13;
-
-pub const SEND: usize = 14;
-
-pub const HELP: usize = 15;
-
-// A command with its numbers, and the places of the arguments that name its files; 0 where there is none.
-#[derive(Clone, Copy)]
-pub struct Command {
-    pub row: usize,
-    pub manner: Manner,
-    pub halving: bool,
-    pub number: u64,
-    pub further: u64,
-    pub file: usize,
-    pub radio: usize,
+// What a command does: the rows of the table of commands, in their order.
+#[derive(Clone, Copy, PartialEq, Eq)]
+pub enum Verb {
+    List,
+    Check,
+    Find,
+    Compare,
+    Read,
+    Judge,
+    Late,
+    Sum,
+    Make,
+    Retire,
+    Unwrap,
+    Wrap,
+    Acknowledge,
+    Watch,
+    Send,
+    Help,
 }
 
-#[derive(Clone, Copy)]
-pub enum Asked {
-    Command(Command),
-    // the complaint is made
-    Wrong,
-}
+impl TryFrom<usize> for Verb {
+    type Error = NoRow;
 
-// The arguments of a command, so far.
-#[derive(Clone, Copy)]
-struct Taken {
-    numbered: bool,
-    number: u64,
-    further: u64,
-    file: usize,
-    radio: usize,
-    inputs: usize,
-    wrong: bool,
-}
-
-// The row of a command's name: one past the last, with the complaint made, where there is none.
-pub fn row_of(rt: &(impl Env + Print + Eprint), commands: &[u8], argument: usize) -> usize {
-    let mut room = [0u8; WORD];
-    let word = word_at(rt, argument, &mut room);
-    let found = row_named(commands, BLANK, word);
-    let line = row(commands, found);
-    if line.len() == 0 {
-        let near = nearest(commands, BLANK, word);
-        complain(
-            rt,
-            rows::UNKNOWN_COMMAND,
-            word,
-            piece(row(commands, near), BLANK, 0),
-        );
-    }
-    found
-}
-
-pub fn unknown_option(rt: &(impl Env + Print + Eprint), options: &[u8], argument: usize) -> Status {
-    let mut room = [0u8; WORD];
-    let word = word_at(rt, argument, &mut room);
-    let near = nearest(options, BLANK, word);
-    complain(rt, rows::UNKNOWN_OPTION, word, row(options, near))
-}
-
-// The command of a row, where it has as many words as its form, each of its kind.
-pub fn command_of(
-    rt: &(impl Env + Print + Eprint),
-    form: &[u8],
-    found: usize,
-    given: Given,
-    names: &[usize; NAMES],
-) -> Asked {
-    let most = pieces(form, BLANK);
-    if most < given.names {
-        complain(rt, rows::TOO_MANY_WORDS, form, form);
-        return Asked::Wrong;
-    }
-    if wrapping_add_usize(given.names, may_be_left_out(form)) < most {
-        complain(rt, rows::TOO_FEW_WORDS, form, form);
-        return Asked::Wrong;
-    }
-    if given.quiet && found != CHECK && found != COMPARE {
-        complain(rt, rows::NOT_QUIET, form, form);
-        return Asked::Wrong;
-    }
-    if given.halving && found != FIND {
-        complain(rt, rows::NOT_HALVING, form, form);
-        return Asked::Wrong;
-    }
-    with_arguments(rt, form, found, given, names)
-}
-
-// A last word in brackets.
-fn may_be_left_out(form: &[u8]) -> usize {
-    if form.len() == 0 {
-        return 0;
-    }
-    (form[form.len() - 1] == b']') as usize
-}
-
-fn with_arguments(
-    rt: &(impl Env + Print + Eprint),
-    form: &[u8],
-    found: usize,
-    given: Given,
-    names: &[usize; NAMES],
-) -> Asked {
-    let taken = take_all(rt, form, given.names, names, (found == WATCH) as usize);
-    if taken.wrong {
-        return Asked::Wrong;
-    }
-    if 1 < taken.inputs {
-        complain(rt, rows::ONE_INPUT, form, form);
-        return Asked::Wrong;
-    }
-    Asked::Command(Command {
-        row: found,
-        manner: manner_of(given),
-        halving: given.halving,
-        number: taken.number,
-        further: taken.further,
-        file: taken.file,
-        radio: taken.radio,
-    })
-}
-
-fn manner_of(given: Given) -> Manner {
-    if given.quiet {
-        return Manner::Quiet;
-    }
-    manner_of_help(given)
-}
-
-// Help and version are answers that -q does not take away.
-pub fn manner_of_help(given: Given) -> Manner {
-    if given.plain {
-        return Manner::Plain;
-    }
-    Manner::Words
-}
-
-fn take_all(
-    rt: &(impl Env + Print + Eprint),
-    form: &[u8],
-    count: usize,
-    names: &[usize; NAMES],
-    inputs: usize,
-) -> Taken {
-    let mut taken = Taken {
-        numbered: false,
-        number: 0,
-        further: 0,
-        file: 0,
-        radio: 0,
-        inputs,
-        wrong: false,
-    };
-    let mut k = 1;
-    while k < NAMES {
-        if k < count {
-            taken = take_one(rt, taken, piece(form, BLANK, k), names[k]);
+    fn try_from(row: usize) -> Result<Verb, NoRow> {
+        match row {
+            0 => Ok(Verb::List),
+            1 => Ok(Verb::Check),
+            2 => Ok(Verb::Find),
+            3 => Ok(Verb::Compare),
+            4 => Ok(Verb::Read),
+            5 => Ok(Verb::Judge),
+            6 => Ok(Verb::Late),
+            7 => Ok(Verb::Sum),
+            8 => Ok(Verb::Make),
+            9 => Ok(Verb::Retire),
+            10 => Ok(Verb::Unwrap),
+            11 => Ok(Verb::Wrap),
+            12 => Ok(Verb::Acknowledge),
+            13 => Ok(Verb::Watch),
+            14 => Ok(Verb::Send),
+            15 => Ok(Verb::Help),
+            _ => Err(NoRow),
         }
-        k += 1;
     }
-    taken
 }
 
-// A word of the form that the table has is a number, with its largest; any other names a file.
-fn take_one(
-    rt: &(impl Env + Print + Eprint),
-    before: Taken,
-    name: &[u8],
-    argument: usize,
-) -> Taken {
-    take_by(
-        rt,
-        before,
-        name,
-        argument,
-        b"TYPE 65535
+// One row for each verb: its form, what it does, and what it tells plainly.
+pub(crate) const COMMANDS: &[u8] =
+    b"list GOLDEN\tevery record: its type, number and length and whether it is retired, or its refusal\tgood RECORD TYPE NUMBER LENGTH, and the word retired behind these where it is, or refused RECORD REFUSAL READING PLACE FILE-PLACE
+check GOLDEN\tthe count of records, which are retired and whether they stand in ascending order of type, then number, or the first that is bad or is live and has the type and number of an earlier live one\tgood COUNT RETIRED, which is how many are retired, and then the number of each, with a second line, ascending or breaks RECORD; or else refused RECORD REFUSAL READING PLACE FILE-PLACE, and with 26 the EARLIER record behind these
+find GOLDEN TYPE NUMBER\tthe first live record of that type and number, and how many were opened; with --halving the record that at most eight openings lead to\tfound RECORD OPENED, or refused RECORD OPENED REFUSAL READING PLACE FILE-PLACE, and with 27, but not by halving, retired RECORD where a retired one has them; by halving RECORD and FILE-PLACE of a refusal are -
+compare GOLDEN RECORD RADIO\ta record beside the radio's message: same, or where the two differ\tsame LENGTH, or different TOTAL and then place PLACE GOLDEN RADIO FIELD for each place below 512, or refused REFUSAL READING PLACE FILE-PLACE
+read MESSAGE\tevery field of a message, or its refusal, and its bytes with the place in brackets\taccepted LENGTH TYPE VERSION FLAGS DATA-LENGTH NUMBER TIME VARIABLE-SIZE TTL QOS SOURCE DESTINATION BODY-PLACE INTEGRITY KIND, or refused REFUSAL READING PLACE
+judge MESSAGE\tevery rule of reading by itself: kept, broken or not judged, with the numbers found; then what read says\trule RULE VERDICT PLACE for each rule, kept, broken or unjudged, and then accepted LENGTH, or refused REFUSAL READING PLACE
+late MESSAGE ENTRY CLOCK\twhether a message that entered the messaging infrastructure at second ENTRY is late at second CLOCK, and by how much\tin-time SECONDS, late SECONDS, no-clock REASON, which is absent without a variable header and zero with a time to live of 0, or refused REFUSAL READING PLACE
+sum FILE\tthe CRC of all bytes of a file\tsum CRC LENGTH
+make MESSAGE\tthe record of 512 bytes that holds a message, to standard output\tthe record, or on standard error refused REFUSAL READING PLACE
+retire GOLDEN RECORD\ta copy of a golden file in which that record is retired, to standard output\tthe copy, or on standard error refused REFUSAL READING PLACE FILE-PLACE
+unwrap FRAME\ta frame: what it is, its COMMIDs, and its message as read tells it; of a capture, which is frames end to end, a line for each, up to the first refused\tdata FRAME PLACE COMMID TYPE NUMBER LENGTH, acknowledgment FRAME PLACE COMMID ACKNOWLEDGED, or refused FRAME PLACE REFUSAL READING MESSAGE-PLACE FILE-PLACE
+wrap COMMID MESSAGE\tthe data message, with that COMMID, that carries a message, to standard output\tthe frame, or on standard error refused REFUSAL READING PLACE
+acknowledge COMMID ACKNOWLEDGED\tthe acknowledgment, with a COMMID of its own, of the COMMID ACKNOWLEDGED, to standard output\tthe frame
+watch [GOLDEN]\tevery message of standard input the moment its last byte is in, and the record of its type and number: same, in how many places the two differ, or that it is retired\tmessage MESSAGE TYPE NUMBER LENGTH DISTANCE RECORD DIFFERING, and the word retired behind these where the record is, or refused MESSAGE BYTES REFUSAL READING PLACE STREAM-PLACE; of a GOLDEN that check refuses what check tells
+send RESENDS\twhat becomes of each message sent, with so many resends each, 0 to 10: each line of standard input is submit, ack, nak or timeout, one blank and a COMMID, and is answered at once; at the end of the input what became of each submission\tsent COMMID, waits COMMID, resent COMMID, acknowledged COMMID NEXT and failed COMMID NEXT, where NEXT is the COMMID then sent, or -; refused REFUSAL READING PLACE LINE COMMID, or unknown LINE; at the end submission SUBMISSION COMMID FATE TIMES for each of the first 65536, where FATE is waiting, in-flight, acknowledged or failed, and TIMES how often it was sent, and total SUBMISSIONS WAITING IN-FLIGHT ACKNOWLEDGED FAILED
+help [COMMAND]\tthis, or what a command does\tthe form of each command
+";
+
+// A word of a form that this table has is a number, with its largest; any other names a file.
+const NUMBERS: &[u8] = b"TYPE 65535
 NUMBER 4294967295
 RECORD 4294967295
 COMMID 4294967295
@@ -225,71 +88,150 @@ ACKNOWLEDGED 4294967295
 ENTRY 18446744073709551615
 CLOCK 18446744073709551615
 RESENDS 18446744073709551615
-",
-    )
+";
+
+// The places of the arguments that name files: of the first of them, and of the last.
+#[derive(Clone, Copy)]
+pub struct Named {
+    pub first: usize,
+    pub last: usize,
 }
 
-fn take_by(
-    rt: &(impl Env + Print + Eprint),
-    before: Taken,
-    name: &[u8],
-    argument: usize,
-    numbers: &[u8],
-) -> Taken {
-    if before.wrong {
-        return before;
+// A command with its numbers, of which the first and the last are told, and 0 where it takes none.
+#[derive(Clone, Copy)]
+pub struct Command {
+    pub verb: Verb,
+    pub halving: bool,
+    pub number: u64,
+    pub further: u64,
+    pub files: Option<Named>,
+}
+
+// The arguments of a command, so far.
+#[derive(Clone, Copy)]
+struct Taken {
+    number: Option<u64>,
+    further: u64,
+    files: Option<Named>,
+    inputs: usize,
+}
+
+impl Verb {
+    // By its name, or the complaint that there is none.
+    pub fn named(rt: &(impl Env + Print + Eprint), argument: usize) -> Told<Verb> {
+        let mut room = [0u8; WORD];
+        let word = word_at(rt, argument, &mut room);
+        Verb::try_from(row_named(COMMANDS, BLANK, word)).map_err(|_| {
+            let near = row(COMMANDS, nearest(COMMANDS, BLANK, word));
+            complain(rt, Row::UnknownCommand, word, piece(near, BLANK, 0))
+        })
     }
+
+    // Its row of the table of commands.
+    pub fn line(self) -> &'static [u8] {
+        row(COMMANDS, self as usize)
+    }
+}
+
+pub fn unknown_option(rt: &(impl Env + Print + Eprint), argument: usize) -> Complained {
     let mut room = [0u8; WORD];
     let word = word_at(rt, argument, &mut room);
-    let largest = piece(row(numbers, row_named(numbers, BLANK, name)), BLANK, 1);
-    if largest.len() == 0 {
-        return with_file(before, argument, is_standard_input(word));
-    }
-    with_number(rt, before, name, largest, word)
+    let near = nearest(OPTIONS, BLANK, word);
+    complain(rt, Row::UnknownOption, word, row(OPTIONS, near))
 }
 
-fn with_number(
-    rt: &(impl Print + Eprint),
-    before: Taken,
-    name: &[u8],
-    largest: &[u8],
-    word: &[u8],
-) -> Taken {
-    match decimal_of(word, number_in(largest)) {
-        Some(n) => numbered(before, n),
-        None => {
-            complain(rt, rows::NOT_A_NUMBER, name, largest);
-            wrong(before)
+// The command of a row, where it has as many words as its form, each of its kind.
+pub fn command_of(rt: &(impl Env + Print + Eprint), verb: Verb, given: &Given) -> Told<Command> {
+    let form = piece(verb.line(), TAB, 0);
+    match misfit(form, verb, given) {
+        Some(row) => Err(complain(rt, row, form, form)),
+        None => with_arguments(rt, form, verb, given),
+    }
+}
+
+// What is wrong with the words of a command, before any of them is read.
+fn misfit(form: &[u8], verb: Verb, given: &Given) -> Option<Row> {
+    let most = pieces(form, BLANK);
+    let least = most.saturating_sub(form.ends_with(b"]") as usize);
+    if most < given.count() {
+        return Some(Row::TooManyWords);
+    }
+    if given.count() < least {
+        return Some(Row::TooFewWords);
+    }
+    if given.quiet && verb != Verb::Check && verb != Verb::Compare {
+        return Some(Row::NotQuiet);
+    }
+    if given.halving && verb != Verb::Find {
+        return Some(Row::NotHalving);
+    }
+    None
+}
+
+fn with_arguments(
+    rt: &(impl Env + Print + Eprint),
+    form: &[u8],
+    verb: Verb,
+    given: &Given,
+) -> Told<Command> {
+    let taken = take_all(rt, form, verb, given.names())?;
+    if 1 < taken.inputs {
+        return Err(complain(rt, Row::OneInput, form, form));
+    }
+    Ok(Command {
+        verb,
+        halving: given.halving,
+        number: taken.number.unwrap_or(0),
+        further: taken.further,
+        files: taken.files,
+    })
+}
+
+// Behind the command's own name stand its arguments. Watch reads standard input, whatever it names.
+fn take_all(
+    rt: &(impl Env + Print + Eprint),
+    form: &[u8],
+    verb: Verb,
+    names: &[usize],
+) -> Told<Taken> {
+    let mut taken = Taken {
+        number: None,
+        further: 0,
+        files: None,
+        inputs: (verb == Verb::Watch) as usize,
+    };
+    for (k, argument) in names.iter().enumerate().skip(1) {
+        taken.take(rt, piece(form, BLANK, k), *argument)?;
+    }
+    Ok(taken)
+}
+
+impl Taken {
+    fn take(&mut self, rt: &(impl Env + Print + Eprint), name: &[u8], argument: usize) -> Told<()> {
+        let mut room = [0u8; WORD];
+        let word = word_at(rt, argument, &mut room);
+        let largest = piece(row(NUMBERS, row_named(NUMBERS, BLANK, name)), BLANK, 1);
+        if largest.is_empty() {
+            self.take_file(argument, is_standard_input(word));
+            return Ok(());
         }
+        match decimal_of(word, decimal_of(largest, u64::MAX).unwrap_or(0)) {
+            Some(n) => self.take_number(n),
+            None => return Err(complain(rt, Row::NotANumber, name, largest)),
+        }
+        Ok(())
     }
-}
 
-fn number_in(digits: &[u8]) -> u64 {
-    decimal_of(digits, u64::MAX).unwrap_or(0)
-}
-
-fn numbered(before: Taken, n: u64) -> Taken {
-    let mut taken = before;
-    taken.further = n;
-    if !before.numbered {
-        taken.number = n;
+    fn take_number(&mut self, n: u64) {
+        self.number = self.number.or(Some(n));
+        self.further = n;
     }
-    taken.numbered = true;
-    taken
-}
 
-fn with_file(before: Taken, argument: usize, is_input: bool) -> Taken {
-    let mut taken = before;
-    taken.radio = argument;
-    if before.file == 0 {
-        taken.file = argument;
+    fn take_file(&mut self, argument: usize, is_input: bool) {
+        self.files = Some(Named {
+            first: self.files.map_or(argument, |files| files.first),
+            last: argument,
+        });
+        self.inputs = self.inputs.wrapping_add(is_input as usize);
     }
-    taken.inputs = wrapping_add_usize(before.inputs, is_input as usize);
-    taken
-}
-
-fn wrong(before: Taken) -> Taken {
-    let mut taken = before;
-    taken.wrong = true;
-    taken
 }

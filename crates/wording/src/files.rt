@@ -1,7 +1,8 @@
 // The files that a command names, or the complaint.
 // Rests on `console`, which opens them for reading only and takes them whole.
 use crate::arguments::{WORD, word_at};
-use crate::rows;
+use crate::rows::Row;
+use crate::status::{Complained, Told};
 use crate::telling::{PAGE, SHOWN, complain};
 use console::errors;
 use console::files::{TakeFault, take};
@@ -14,40 +15,28 @@ pub const MOST: usize = 65_536;
 
 pub const ROOM: usize = MOST + 1;
 
-#[derive(Clone, Copy)]
-pub enum File {
-    Size(usize),
-    Untaken,
-}
-
 // The file that an argument names. One with more than the most bytes is taken where the library is to refuse it.
-pub fn file_at(
+pub fn file_at<'a>(
     rt: &(impl Env + Files + Input + Print + Eprint),
     argument: usize,
     most: usize,
-    buffer: &mut [u8],
-) -> File {
+    buffer: &'a mut [u8],
+) -> Told<&'a [u8]> {
     let mut word = [0u8; WORD];
     let name = word_at(rt, argument, &mut word);
-    match take(rt, name, buffer) {
-        Ok(taken) => {
-            if most < taken {
-                return too_large(rt, name);
-            }
-            File::Size(taken)
-        }
-        Err(TakeFault::NotOpened(error)) => failed(rt, 0, name, error),
-        Err(TakeFault::NotRead(error)) => failed(rt, 1, name, error),
+    let size = take(rt, name, buffer).map_err(|fault| failed(rt, name, fault))?;
+    if most < size {
+        return Err(complain(rt, Row::LargeFile, name, name));
     }
-}
-
-fn too_large(rt: &(impl Print + Eprint), name: &[u8]) -> File {
-    complain(rt, rows::LARGE_FILE, name, name);
-    File::Untaken
+    Ok(&buffer[..size])
 }
 
 // The name, and the system's reason.
-fn failed(rt: &impl Eprint, reading: u64, name: &[u8], error: Error) -> File {
+fn failed(rt: &impl Eprint, name: &[u8], fault: TakeFault) -> Complained {
+    let (reading, error): (u64, Error) = match fault {
+        TakeFault::NotOpened(error) => (0, error),
+        TakeFault::NotRead(error) => (1, error),
+    };
     let mut page = [0u8; PAGE];
     let size = fill(
         &mut page,
@@ -57,5 +46,5 @@ fn failed(rt: &impl Eprint, reading: u64, name: &[u8], error: Error) -> File {
         name,
     );
     errors::fail(rt, &page[..size], error);
-    File::Untaken
+    Complained
 }

@@ -1,68 +1,19 @@
 // Help: a command's form and what it does, or every command, option, exit status and refusal; and the version.
 // Rests on the table of commands, which is lent.
-use crate::commands::TAB;
-use crate::refusals::list_refusals;
-use crate::rows;
-use crate::status::Status;
-use crate::telling::{Manner, PAGE, put, tell};
-use console::table::{piece, row};
+use crate::commands::{COMMANDS, TAB};
+use crate::rows::Row;
+use crate::status::{Status, Told};
+use crate::telling::{Manner, PAGE, Teller};
+use console::table::piece;
 use std::env::Env;
-use std::num::wrapping_add_usize;
 
 // The variable in which the launcher gives the name of the kit that proved the program.
 const KIT: &str = "EMP_KIT";
 
-// One command, by its row of the table: its form, what it does, and the lines that it tells plainly.
-pub fn help_for(rt: &(impl Print + Eprint), manner: Manner, line: &[u8], whole: bool) -> Status {
-    let form = piece(line, TAB, 0).len();
-    let does = piece(line, TAB, 1).len();
-    let behind_form = wrapping_add_usize(form, 1);
-    let behind = wrapping_add_usize(wrapping_add_usize(behind_form, does), 1);
-    tell(
-        rt,
-        manner,
-        Status::Done,
-        rows::COMMAND,
-        &[
-            0,
-            form as u64,
-            behind_form as u64,
-            does as u64,
-            whole as u64,
-            behind as u64,
-            u64::MAX,
-        ],
-        line,
-    )
-}
+const INTRODUCTION: &[u8] =
+    b"emp tells what golden files, EMP messages and Class D frames hold. Files are opened for reading only.\n\n";
 
-pub fn help(rt: &(impl Print + Eprint), manner: Manner, commands: &[u8]) -> Status {
-    match manner {
-        Manner::Words => help_in_words(rt, commands),
-        _ => list_commands(rt, manner, commands),
-    }
-}
-
-fn help_in_words(rt: &(impl Print + Eprint), commands: &[u8]) -> Status {
-    let head = put(
-        rt,
-        b"emp tells what golden files, EMP messages and Class D frames hold. Files are opened for reading only.\n\n",
-        Status::Done,
-    );
-    if head.is_complaint() {
-        return head;
-    }
-    let listed = list_commands(rt, Manner::Words, commands);
-    if listed.is_complaint() {
-        return listed;
-    }
-    help_on_the_rest(rt)
-}
-
-fn help_on_the_rest(rt: &(impl Print + Eprint)) -> Status {
-    let rest = put(
-        rt,
-        b"
+const REST: &[u8] = b"
 GOLDEN, RADIO, MESSAGE, FRAME and FILE are names of files, from which at most 65536 bytes are taken; - is standard
 input, which one of them may be. TYPE, NUMBER, RECORD, COMMID, ACKNOWLEDGED, ENTRY, CLOCK and RESENDS are numbers in
 digits; the first record is 0. ENTRY and CLOCK are seconds from one moment, whichever it is. watch checks GOLDEN before it
@@ -86,43 +37,62 @@ Exit status
   128 and a signal's number, where a signal ended it
 
 Refusals
-",
+";
+
+// One command, by its row of the table: its form, what it does, and the lines that it tells plainly.
+pub fn help_for(teller: &Teller<'_, impl Print + Eprint>, line: &[u8], whole: bool) -> Told {
+    let form = piece(line, TAB, 0).len();
+    let does = piece(line, TAB, 1).len();
+    let behind_form = form.wrapping_add(1);
+    let behind = behind_form.wrapping_add(does).wrapping_add(1);
+    teller.tell(
         Status::Done,
-    );
-    if rest.is_complaint() {
-        return rest;
-    }
-    match list_refusals(rt) {
-        Status::Complained => Status::Complained,
-        _ => Status::Done,
+        Row::Command,
+        &[
+            0,
+            form as u64,
+            behind_form as u64,
+            does as u64,
+            whole as u64,
+            behind as u64,
+            u64::MAX,
+        ],
+        line,
+    )
+}
+
+pub fn help(teller: &Teller<'_, impl Print + Eprint>) -> Told {
+    match teller.manner {
+        Manner::Words => help_in_words(teller),
+        _ => list_commands(teller),
     }
 }
 
-fn list_commands(rt: &(impl Print + Eprint), manner: Manner, commands: &[u8]) -> Status {
-    let mut k = 0;
-    while k < commands.len() {
-        let line = row(commands, k);
-        if line.len() == 0 {
-            return Status::Done;
+fn help_in_words(teller: &Teller<'_, impl Print + Eprint>) -> Told {
+    teller.put(INTRODUCTION)?;
+    list_commands(teller)?;
+    teller.put(REST)?;
+    teller.list_refusals()
+}
+
+fn list_commands(teller: &Teller<'_, impl Print + Eprint>) -> Told {
+    for line in COMMANDS.split(|byte| *byte == b'\n') {
+        if line.is_empty() {
+            break;
         }
-        if help_for(rt, manner, line, false).is_complaint() {
-            return Status::Complained;
-        }
-        k += 1;
+        help_for(teller, line, false)?;
     }
-    Status::Done
+    Ok(Status::Done)
 }
 
 // What the tool is, and by what it was proved.
-pub fn version(rt: &(impl Env + Print + Eprint), manner: Manner) -> Status {
+pub fn version(teller: &Teller<'_, impl Env + Print + Eprint>) -> Told {
     let mut room = [0u8; PAGE];
-    let kit = kit_in(rt, &mut room);
+    let kit = kit_in(teller.rt, &mut room);
     let size = kit.len();
-    tell(
-        rt,
-        manner,
+    teller.tell(
         Status::Done,
-        rows::VERSION,
+        Row::Version,
         &[(size != 0) as u64, 0, size as u64],
         kit,
     )

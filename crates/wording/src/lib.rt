@@ -12,6 +12,6 @@ pub mod sides;
 pub mod status;
 pub mod telling;
 
-pub use crate::refusals::refuse;
-pub use crate::status::Status;
-pub use crate::telling::{Manner, tell};
+pub use crate::rows::Row;
+pub use crate::status::{Complained, Status, Told};
+pub use crate::telling::{Manner, Teller};

@@ -1,157 +1,104 @@
 // Refusals, in words: every number of their tables, what is refused, and where.
 // Rests on `telling`, which has the template of them all and fills the words in.
-use crate::rows;
-use crate::status::Status;
-use crate::telling::{Manner, To, half_of, put_by};
-use std::num::wrapping_add_u64;
+use crate::rows::Row;
+use crate::status::{Status, Told};
+use crate::telling::{Teller, To};
 
-// What is refused: by this the template's choices go.
-pub const ALONE: u64 = 0;
+// What is refused, with the numbers told of it. A number here is a record's, a message's, a frame's or a line's own.
+#[derive(Clone, Copy)]
+pub enum What {
+    Alone,
+    ToBeMade,
+    GoldenFile,
+    Record { number: u64 },
+    // and the bytes of the stream so far
+    Message { number: u64, bytes: u64 },
+    Frame { number: u64, place: u64 },
+    // of a search the file, or the record that was opened last, and how many were opened
+    SearchedFile { opened: u64 },
+    SearchedRecord { number: u64, opened: u64 },
+    // a line of the send side
+    Event { number: u64, commid: u64 },
+}
 
-pub const TO_BE_MADE: u64 = 1;
+// What a message is part of, and where that has the message's first byte.
+#[derive(Clone, Copy)]
+pub enum Whole {
+    Nothing,
+    // something, of which this one is not
+    Other,
+    File { from: u64 },
+    Stream { from: u64 },
+    // a record whose number is not told
+    Record,
+}
 
-pub const GOLDEN_FILE: u64 = 2;
+#[derive(Clone, Copy)]
+pub struct Subject {
+    pub what: What,
+    pub whole: Whole,
+}
 
-pub const RECORD: u64 = 3;
+impl Subject {
+    // A message by itself, or one that something was to be made of.
+    pub fn by_itself(what: What) -> Subject {
+        Subject {
+            what,
+            whole: Whole::Nothing,
+        }
+    }
+}
 
-pub const MESSAGE: u64 = 4;
+// By which the template's choices go, and the numbers that stand in them.
+#[derive(Clone, Copy)]
+struct Choice {
+    choice: u64,
+    number: u64,
+    further: u64,
+}
 
-pub const FRAME: u64 = 5;
+impl From<What> for Choice {
+    fn from(what: What) -> Choice {
+        match what {
+            What::Alone => Choice::new(0, 0, 0),
+            What::ToBeMade => Choice::new(1, 0, 0),
+            What::GoldenFile => Choice::new(2, 0, 0),
+            What::Record { number } => Choice::new(3, number, 0),
+            What::Message { number, bytes } => Choice::new(4, number, bytes),
+            What::Frame { number, place } => Choice::new(5, number, place),
+            What::SearchedFile { opened } => Choice::new(6, 0, opened),
+            What::SearchedRecord { number, opened } => Choice::new(7, number, opened),
+            What::Event { number, commid } => Choice::new(8, number, commid),
+        }
+    }
+}
 
-// Of a search, the file, or the record that was opened last.
-pub const SEARCHED_FILE: u64 = 6;
+impl From<Whole> for Choice {
+    fn from(whole: Whole) -> Choice {
+        match whole {
+            Whole::Nothing => Choice::new(0, 0, 0),
+            Whole::Other => Choice::new(1, 0, 0),
+            Whole::File { from } => Choice::new(2, from, 0),
+            Whole::Stream { from } => Choice::new(3, from, 0),
+            Whole::Record => Choice::new(4, 0, 0),
+        }
+    }
+}
 
-pub const SEARCHED_RECORD: u64 = 7;
-
-// A line of the send side, and its COMMID.
-pub const EVENT: u64 = 8;
-
-// What a message is part of: nothing; something, of which this one is not; a file; a stream.
-pub const NO_WHOLE: u64 = 0;
-
-pub const NOT_OF_WHOLE: u64 = 1;
-
-pub const OF_FILE: u64 = 2;
-
-pub const OF_STREAM: u64 = 3;
-
-// A record whose number is not told.
-pub const OF_A_RECORD: u64 = 4;
+impl Choice {
+    fn new(choice: u64, number: u64, further: u64) -> Choice {
+        Choice {
+            choice,
+            number,
+            further,
+        }
+    }
+}
 
 // The last of the rules of reading, which alone tell a place.
 const LAST_RULE: u8 = 7;
 
-// What is refused, with the numbers told of it: its own, and behind it the bytes so far, the place, the records opened or the COMMID.
-// And what its message is part of, and where that has the message's first byte.
-#[derive(Clone, Copy)]
-pub struct Subject {
-    pub what: u64,
-    pub number: u64,
-    pub further: u64,
-    pub whole: u64,
-    pub from: u64,
-}
-
-// A message by itself, or one that something was to be made of.
-pub fn by_itself(what: u64) -> Subject {
-    Subject {
-        what,
-        number: 0,
-        further: 0,
-        whole: NO_WHOLE,
-        from: 0,
-    }
-}
-
-// A refusal by its number, that of reading, or 0, and the place in the message.
-pub fn refuse(
-    rt: &(impl Print + Eprint),
-    manner: Manner,
-    of: Subject,
-    refusal: u8,
-    reading: u8,
-    place: usize,
-) -> Status {
-    let what = of.what;
-    let number = of.number;
-    let further = of.further;
-    let rule = rule_of(refusal, reading);
-    let place = place as u64;
-    let in_whole = wrapping_add_u64(of.from, place);
-    by_refusals(
-        rt,
-        stream_for(what),
-        half_of(manner, rows::REFUSED),
-        &[
-            what,
-            number,
-            number,
-            further,
-            number,
-            further,
-            further,
-            number,
-            further,
-            refusal as u64,
-            reading as u64,
-            (rule != 0) as u64,
-            place,
-            whole_of(rule, of.whole),
-            in_whole,
-            in_whole,
-            rule as u64,
-            what,
-            further,
-            further,
-            number,
-            further,
-        ],
-    )
-}
-
-// Where something was to be made, standard output is for its bytes.
-fn stream_for(what: u64) -> To {
-    if what == TO_BE_MADE {
-        return To::Errors;
-    }
-    To::Output
-}
-
-// The rule of reading that is broken, be it passed on: 0 where reading had no part.
-fn rule_of(refusal: u8, reading: u8) -> u8 {
-    if refusal <= LAST_RULE {
-        return refusal;
-    }
-    reading
-}
-
-// Without a place in the message there is none in what it is part of.
-fn whole_of(rule: u8, whole: u64) -> u64 {
-    if rule == 0 && whole != NO_WHOLE {
-        return NOT_OF_WHOLE;
-    }
-    whole
-}
-
-// All of them, a line each.
-pub(crate) fn list_refusals(rt: &(impl Print + Eprint)) -> Status {
-    by_refusals(
-        rt,
-        To::Output,
-        half_of(Manner::Words, rows::ALL_REFUSALS),
-        &[0, u64::MAX],
-    )
-}
-
-// A template of refusals, by its half.
-fn by_refusals(rt: &(impl Print + Eprint), to: To, half: usize, numbers: &[u64]) -> Status {
-    put_by(
-        rt,
-        to,
-        Status::Refused,
-        half,
-        numbers,
-        b"1\tfewer than 21 bytes
+const REFUSALS: &[u8] = b"1\tfewer than 21 bytes
 2\tthe header version is not 4
 3\tan unassigned flag is set, or the integrity kind is 3, which is unassigned
 4\tthe variable header size is 1 to 5, or above 132
@@ -187,6 +134,78 @@ fn by_refusals(rt: &(impl Print + Eprint), to: To, half: usize, numbers: &[u64])
 71\tthe COMMID waits or is in flight
 72\tthe COMMID is not the one in flight
 73\tmore than 10 resends
-",
-    )
+";
+
+impl<R: Print + Eprint> Teller<'_, R> {
+    // A refusal by its number, that of reading, or 0, and the place in the message.
+    pub fn refuse(&self, of: Subject, refusal: u8, reading: u8, place: usize) -> Told {
+        let rule = rule_of(refusal, reading);
+        let what = Choice::from(of.what);
+        let whole = Choice::from(whole_of(rule, of.whole));
+        let place = place as u64;
+        let in_whole = whole.number.wrapping_add(place);
+        let (choice, number, further) = (what.choice, what.number, what.further);
+        self.tell_to(
+            stream_for(of.what),
+            Row::Refused,
+            &[
+                choice,
+                number,
+                number,
+                further,
+                number,
+                further,
+                further,
+                number,
+                further,
+                refusal as u64,
+                reading as u64,
+                rule.is_some() as u64,
+                place,
+                whole.choice,
+                in_whole,
+                in_whole,
+                rule.unwrap_or(0) as u64,
+                choice,
+                further,
+                further,
+                number,
+                further,
+            ],
+            REFUSALS,
+        )?;
+        Ok(Status::Refused)
+    }
+
+    // All of them, a line each.
+    pub(crate) fn list_refusals(&self) -> Told {
+        self.tell(Status::Done, Row::AllRefusals, &[0, u64::MAX], REFUSALS)
+    }
+}
+
+// Where something was to be made, standard output is for its bytes.
+fn stream_for(what: What) -> To {
+    match what {
+        What::ToBeMade => To::Errors,
+        _ => To::Output,
+    }
+}
+
+// The rule of reading that is broken, be it passed on: none where reading had no part.
+fn rule_of(refusal: u8, reading: u8) -> Option<u8> {
+    let rule = if refusal <= LAST_RULE {
+        refusal
+    } else {
+        reading
+    };
+    (rule != 0).then_some(rule)
+}
+
+// Without a place in the message there is none in what it is part of.
+fn whole_of(rule: Option<u8>, whole: Whole) -> Whole {
+    match whole {
+        Whole::Nothing => whole,
+        _ if rule.is_none() => Whole::Other,
+        _ => whole,
+    }
 }

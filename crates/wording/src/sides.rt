@@ -1,17 +1,18 @@
 // Messages in rows of hex, with places in brackets and the fields that they lie in: two side by side where they differ, plainly a line for
 // each place; or one by itself where it is refused.
 // Rests on marks that are lent, a byte for each place: 0, or, of a place in brackets, one more than the order of its field in the envelope's table.
-use crate::rows;
-use crate::status::Status;
-use crate::telling::{Manner, tell};
+use crate::rows::Row;
+use crate::status::{Status, Told};
+use crate::telling::{Manner, Teller};
 use console::table::between;
-use std::num::wrapping_add_usize;
 
 // The places that are shown: as many as a record has bytes, which are more than those of a golden message.
 pub const PLACES: usize = 512;
 
-// The bytes in a row.
+// The bytes in a row, and the rows that are shown.
 const ROW: usize = 8;
+
+const ROWS: usize = PLACES / ROW;
 
 // The fields of the table, and behind them the two addresses together, which rule 6 speaks of.
 const FIELDS: usize = 15;
@@ -19,10 +20,7 @@ const FIELDS: usize = 15;
 pub const ADDRESSES: u8 = 15;
 
 // The numbers of a byte in a row: how it is shown, and the byte for each way that shows it.
-const CELL: usize = 3;
-
-// A way that shows nothing, not even the room.
-const NO_CELL: u64 = 4;
+const CELL_NUMBERS: usize = 3;
 
 // Where the numbers of a row begin that are the golden message's, the radio's and the fields', and how many there are.
 const GOLDEN: usize = 2;
@@ -33,62 +31,82 @@ const NAMES: usize = 50;
 
 const NUMBERS: usize = 65;
 
+// How a place is shown, in the order of the template's choices: last, of a side that is left out, not even the room.
+#[derive(Clone, Copy)]
+enum Cell {
+    Byte,
+    MarkedByte,
+    MarkedGap,
+    Gap,
+    Nothing,
+}
+
+// Two messages side by side, or one alone, of which the other side is left out.
+#[derive(Clone, Copy)]
+struct Sides<'a> {
+    golden: &'a [u8],
+    radio: &'a [u8],
+    alone: bool,
+}
+
+// A row of them: the place where it begins, its own marks, and the first of the fields that it names.
+#[derive(Clone, Copy)]
+struct Line<'a> {
+    sides: Sides<'a>,
+    place: usize,
+    marks: &'a [u8],
+    first: Option<usize>,
+}
+
 // Where two messages differ, in this many places. Each line is written by itself, and none behind one that could not be.
 pub fn show_difference(
-    rt: &(impl Print + Eprint),
-    manner: Manner,
+    teller: &Teller<'_, impl Print + Eprint>,
     golden: &[u8],
     radio: &[u8],
     total: usize,
-    marks: &[u8],
-) -> Status {
-    let head = tell(
-        rt,
-        manner,
-        Status::Refused,
-        rows::DIFFERENT,
-        &[total as u64],
+    marks: &[u8; PLACES],
+) -> Told {
+    teller.tell(Status::Refused, Row::Different, &[total as u64], golden)?;
+    let sides = Sides {
         golden,
-    );
-    if head.is_complaint() {
-        return Status::Complained;
-    }
-    match manner {
-        Manner::Words => show_sides(rt, golden, radio, marks),
-        Manner::Plain => show_places(rt, golden, radio, marks),
-        Manner::Quiet => Status::Refused,
+        radio,
+        alone: false,
+    };
+    match teller.manner {
+        Manner::Words => show_sides(teller, sides, marks),
+        Manner::Plain => show_places(teller, sides, marks),
+        Manner::Quiet => Ok(Status::Refused),
     }
 }
 
 // A golden message ends before the rows do, so every place of the radio's after them differs.
-fn show_sides(rt: &(impl Print + Eprint), golden: &[u8], radio: &[u8], marks: &[u8]) -> Status {
-    if show_rows(rt, golden, radio, marks, false).is_complaint() {
-        return Status::Complained;
-    }
-    show_more(rt, PLACES, radio.len(), 1)
+fn show_sides(
+    teller: &Teller<'_, impl Print + Eprint>,
+    sides: Sides<'_>,
+    marks: &[u8; PLACES],
+) -> Told {
+    show_rows(teller, sides, marks)?;
+    show_more(teller, PLACES, sides.radio.len(), 1)
 }
 
 // A message with one place in brackets. The row of a place beyond those shown comes behind them.
-pub fn show_marked(rt: &(impl Print + Eprint), message: &[u8], place: usize, mark: u8) -> Status {
-    let head = tell(
-        rt,
-        Manner::Words,
-        Status::Refused,
-        rows::MARKED,
-        &[0],
-        message,
-    );
-    if head.is_complaint() {
-        return Status::Complained;
-    }
-    let marks = marks_with(place, mark);
-    if show_rows(rt, message, message, &marks, true).is_complaint() {
-        return Status::Complained;
-    }
+pub fn show_marked(
+    teller: &Teller<'_, impl Print + Eprint>,
+    message: &[u8],
+    place: usize,
+    mark: u8,
+) -> Told {
+    teller.tell(Status::Refused, Row::Marked, &[0], message)?;
+    let sides = Sides {
+        golden: message,
+        radio: message,
+        alone: true,
+    };
+    show_rows(teller, sides, &marks_with(place, mark))?;
     if place < PLACES {
-        return show_more(rt, PLACES, message.len(), 0);
+        return show_more(teller, PLACES, message.len(), 0);
     }
-    show_beyond(rt, message, place, mark)
+    show_beyond(teller, sides, place, mark)
 }
 
 fn marks_with(place: usize, mark: u8) -> [u8; PLACES] {
@@ -99,227 +117,177 @@ fn marks_with(place: usize, mark: u8) -> [u8; PLACES] {
     marks
 }
 
-fn show_beyond(rt: &(impl Print + Eprint), message: &[u8], place: usize, mark: u8) -> Status {
+fn show_beyond(
+    teller: &Teller<'_, impl Print + Eprint>,
+    sides: Sides<'_>,
+    place: usize,
+    mark: u8,
+) -> Told {
     let column = place % ROW;
     let row = place - column;
     let mut marks = [0u8; ROW];
     marks[column] = mark;
-    if show_more(rt, PLACES, row, 0).is_complaint() {
-        return Status::Complained;
-    }
-    if show_row(rt, message, message, &marks, row, true).is_complaint() {
-        return Status::Complained;
-    }
-    show_more(rt, wrapping_add_usize(row, ROW), message.len(), 0)
+    show_more(teller, PLACES, row, 0)?;
+    show_row(teller, sides, row, &marks)?;
+    show_more(teller, row.wrapping_add(ROW), sides.golden.len(), 0)
 }
 
 fn show_rows(
-    rt: &(impl Print + Eprint),
-    golden: &[u8],
-    radio: &[u8],
-    marks: &[u8],
-    alone: bool,
-) -> Status {
-    let mut row = 0;
-    while row < PLACES {
-        if show_row(
-            rt,
-            golden,
-            radio,
-            between(marks, row, row + ROW),
-            row,
-            alone,
-        )
-        .is_complaint()
-        {
-            return Status::Complained;
-        }
-        row += ROW;
+    teller: &Teller<'_, impl Print + Eprint>,
+    sides: Sides<'_>,
+    marks: &[u8; PLACES],
+) -> Told {
+    for k in 0..ROWS {
+        let row = k * ROW;
+        show_row(teller, sides, row, &marks[row..row + ROW])?;
     }
-    Status::Refused
+    Ok(Status::Refused)
 }
 
-// The row that begins at a place, by its own marks. Of a message alone the other side is left out.
+// The row that begins at a place, by its own marks.
 fn show_row(
-    rt: &(impl Print + Eprint),
-    golden: &[u8],
-    radio: &[u8],
+    teller: &Teller<'_, impl Print + Eprint>,
+    sides: Sides<'_>,
+    place: usize,
     marks: &[u8],
-    row: usize,
-    alone: bool,
-) -> Status {
+) -> Told {
     let first = first_named(marks);
-    if golden.len() <= row && radio.len() <= row && first == FIELDS {
-        return Status::Refused;
+    if sides.golden.len() <= place && sides.radio.len() <= place && first.is_none() {
+        return Ok(Status::Refused);
     }
+    let line = Line {
+        sides,
+        place,
+        marks,
+        first,
+    };
     let mut numbers = [0u64; NUMBERS];
-    for k in 0..NUMBERS {
-        numbers[k] = number_of(golden, radio, marks, row, alone, first, k);
+    for (k, number) in numbers.iter_mut().enumerate() {
+        *number = line.number(k);
     }
-    tell(
-        rt,
-        Manner::Words,
-        Status::Refused,
-        rows::ROW,
-        &numbers,
-        golden,
-    )
+    teller.tell(Status::Refused, Row::Row, &numbers, sides.golden)
 }
 
-// The number of a row that its template takes behind so many others.
-fn number_of(
-    golden: &[u8],
-    radio: &[u8],
-    marks: &[u8],
-    row: usize,
-    alone: bool,
-    first: usize,
-    k: usize,
-) -> u64 {
-    if k == 0 {
-        return further_digits(row);
+impl Line<'_> {
+    // The number that the row's template takes behind so many others.
+    fn number(&self, k: usize) -> u64 {
+        if k == 0 {
+            return further_digits(self.place);
+        }
+        if k < GOLDEN {
+            return self.place as u64;
+        }
+        if k < RADIO {
+            return self.cell_number(self.sides.golden, k - GOLDEN);
+        }
+        if NAMES <= k {
+            return self.name_number(k - NAMES);
+        }
+        if self.sides.alone {
+            return Cell::Nothing as u64;
+        }
+        self.cell_number(self.sides.radio, k - RADIO)
     }
-    if k < GOLDEN {
-        return row as u64;
+
+    fn cell_number(&self, message: &[u8], k: usize) -> u64 {
+        let column = k / CELL_NUMBERS;
+        let place = self.place.wrapping_add(column);
+        if k % CELL_NUMBERS == 0 {
+            return cell_of(place < message.len(), byte_at(self.marks, column) != 0) as u64;
+        }
+        byte_at(message, place) as u64
     }
-    if k < RADIO {
-        return cell_number(golden, marks, row, k - GOLDEN);
+
+    // A field is not named, or it is the first named, or a further one.
+    fn name_number(&self, order: usize) -> u64 {
+        if self.first == Some(order) {
+            return 1;
+        }
+        if is_named(self.marks, order) {
+            return 2;
+        }
+        0
     }
-    if NAMES <= k {
-        return name_number(marks, first, k - NAMES);
-    }
-    if alone {
-        return NO_CELL;
-    }
-    cell_number(radio, marks, row, k - RADIO)
 }
 
 // How many digits stand behind the first; no file that is taken has a place of more than five.
 fn further_digits(place: usize) -> u64 {
-    if place < 10 {
-        return 0;
-    }
-    if place < 100 {
-        return 1;
-    }
-    if place < 1_000 {
-        return 2;
-    }
-    if place < 10_000 {
-        return 3;
-    }
-    4
+    place.checked_ilog10().unwrap_or(0).min(4) as u64
 }
 
-fn cell_number(message: &[u8], marks: &[u8], row: usize, k: usize) -> u64 {
-    let column = k / CELL;
-    let place = wrapping_add_usize(row, column);
-    if k % CELL == 0 {
-        return cell_of(place < message.len(), byte_at(marks, column) != 0);
+// A byte that is there or not, in brackets or not.
+fn cell_of(there: bool, marked: bool) -> Cell {
+    match (there, marked) {
+        (true, false) => Cell::Byte,
+        (true, true) => Cell::MarkedByte,
+        (false, true) => Cell::MarkedGap,
+        (false, false) => Cell::Gap,
     }
-    byte_at(message, place) as u64
 }
 
-// A byte, one in brackets, none where there is to be one, and none at all.
-fn cell_of(there: bool, marked: bool) -> u64 {
-    if there {
-        return marked as u64;
-    }
-    if marked {
-        return 2;
-    }
-    3
+// A byte that is not there counts as 0.
+pub fn byte_at(bytes: &[u8], place: usize) -> u8 {
+    bytes.get(place).copied().unwrap_or(0)
 }
 
-fn byte_at(bytes: &[u8], place: usize) -> u8 {
-    if place < bytes.len() {
-        return bytes[place];
-    }
-    0
-}
-
-// A field is not named, or it is the first named, or a further one.
-fn name_number(marks: &[u8], first: usize, order: usize) -> u64 {
-    if order == first {
-        return 1;
-    }
-    if is_named(marks, order) {
-        return 2;
-    }
-    0
-}
-
-// The first of the fields that a row names; where it names none, a field that there is not.
-fn first_named(marks: &[u8]) -> usize {
-    let mut order = 0;
-    while order < FIELDS {
-        if is_named(marks, order) {
-            return order;
-        }
-        order += 1;
-    }
-    order
+// The first of the fields that a row names.
+fn first_named(marks: &[u8]) -> Option<usize> {
+    (0..FIELDS).find(|order| is_named(marks, *order))
 }
 
 // Whether a place of the row is marked by a field.
 fn is_named(marks: &[u8], order: usize) -> bool {
-    let mut column = 0;
-    while column < marks.len() {
-        if is_mark_of(marks[column], order) {
-            return true;
-        }
-        column += 1;
-    }
-    false
+    marks.iter().any(|mark| is_mark_of(*mark, order))
 }
 
 fn is_mark_of(mark: u8, order: usize) -> bool {
-    mark as usize == wrapping_add_usize(order, 1)
+    mark as usize == order.wrapping_add(1)
 }
 
 // The rows from a place to an end that are not shown, and, of two messages, their places.
-fn show_more(rt: &(impl Print + Eprint), from: usize, end: usize, differing: u64) -> Status {
+fn show_more(
+    teller: &Teller<'_, impl Print + Eprint>,
+    from: usize,
+    end: usize,
+    differing: u64,
+) -> Told {
     if end <= from {
-        return Status::Refused;
+        return Ok(Status::Refused);
     }
     let left = end - from;
-    tell(
-        rt,
-        Manner::Words,
+    let rows = ((left - 1) / ROW) as u64 + 1;
+    teller.tell(
         Status::Refused,
-        rows::MORE,
-        &[((left - 1) / ROW) as u64 + 1, differing, left as u64],
+        Row::More,
+        &[rows, differing, left as u64],
         b"",
     )
 }
 
 // The differing places that are shown.
-fn show_places(rt: &(impl Print + Eprint), golden: &[u8], radio: &[u8], marks: &[u8]) -> Status {
-    let mut place = 0;
-    while place < marks.len() {
-        if show_place(rt, golden, radio, place, marks[place]).is_complaint() {
-            return Status::Complained;
+fn show_places(
+    teller: &Teller<'_, impl Print + Eprint>,
+    sides: Sides<'_>,
+    marks: &[u8; PLACES],
+) -> Told {
+    for (place, mark) in marks.iter().enumerate() {
+        if *mark != 0 {
+            show_place(teller, sides, place, *mark)?;
         }
-        place += 1;
     }
-    Status::Refused
+    Ok(Status::Refused)
 }
 
 fn show_place(
-    rt: &(impl Print + Eprint),
-    golden: &[u8],
-    radio: &[u8],
+    teller: &Teller<'_, impl Print + Eprint>,
+    sides: Sides<'_>,
     place: usize,
     mark: u8,
-) -> Status {
-    if mark == 0 {
-        return Status::Refused;
-    }
-    tell(
-        rt,
-        Manner::Plain,
+) -> Told {
+    let Sides { golden, radio, .. } = sides;
+    teller.tell(
         Status::Refused,
-        rows::PLACE,
+        Row::Place,
         &[
             place as u64,
             (place < golden.len()) as u64,

@@ -1,11 +1,11 @@
 // Every answer of the tool as a template, in words and plainly, and the complaints of its words and files. A template goes by its row.
 // Rests on `console`, which fills a template in. What is told is made whole and then written in one call; a complaint is told by halves.
-use crate::status::Status;
+use crate::rows::Row;
+use crate::status::{Complained, Status, Told};
 use console::errors;
 use console::filling::fill;
 use console::table::piece;
 use std::io::Result;
-use std::num::wrapping_add_usize;
 
 #[derive(Clone, Copy)]
 pub enum Manner {
@@ -13,6 +13,13 @@ pub enum Manner {
     Plain,
     // the status alone
     Quiet,
+}
+
+// Who tells: where the answers go, and in which manner.
+#[derive(Drop)]
+pub struct Teller<'a, R> {
+    pub rt: &'a R,
+    pub manner: Manner,
 }
 
 // Standard output, or standard error.
@@ -31,46 +38,8 @@ pub(crate) const SHOWN: u64 = 1_000;
 // The bytes of a page.
 pub(crate) const PAGE: usize = 4_096;
 
-// No half has this place.
-const NO_HALF: usize = 1_000;
-
-// An answer, or a part of one, on standard output; the status, or, where it could not be written, the complaint. `lent` is what the template's marks for text speak of.
-pub fn tell(
-    rt: &(impl Print + Eprint),
-    manner: Manner,
-    status: Status,
-    row: usize,
-    numbers: &[u64],
-    lent: &[u8],
-) -> Status {
-    put_by(rt, To::Output, status, half_of(manner, row), numbers, lent)
-}
-
-// Which half of all: none, where only the status is wanted.
-pub(crate) fn half_of(manner: Manner, row: usize) -> usize {
-    match manner {
-        Manner::Words => wrapping_add_usize(row, row),
-        Manner::Plain => wrapping_add_usize(wrapping_add_usize(row, row), 1),
-        Manner::Quiet => NO_HALF,
-    }
-}
-
-pub(crate) fn put_by(
-    rt: &(impl Print + Eprint),
-    to: To,
-    status: Status,
-    half: usize,
-    numbers: &[u64],
-    lent: &[u8],
-) -> Status {
-    put_template(
-        rt,
-        to,
-        status,
-        half,
-        numbers,
-        lent,
-        b"message #: type #, number #, # byte*, {first|repeat|next|ahead #|behind #}{|, no record of that type and number|, record #, same|, record #, different in # place*|, record #, not compared|, record # is retired}
+const TEMPLATES: &[u8] =
+    b"message #: type #, number #, # byte*, {first|repeat|next|ahead #|behind #}{|, no record of that type and number|, record #, same|, record #, different in # place*|, record #, not compared|, record # is retired}
 \0message\t#\t#\t#\t#\t{-|0|1|#|-#}\t{-\t-|-\t-|#\t0|#\t#|#\t-|#\t-\tretired}
 \0# record*
 \0\0record #: type #, number #, # byte*{|, retired}
@@ -175,43 +144,56 @@ place   golden                            radio                           differ
 \0emp: a word is too long: it has at most 4096 bytes\0
 \0emp: ^ must be a number from 0 to \0^, in 1 to 20 digits and nothing else
 \0emp: '^' has more than 65536 bytes, the most that emp takes\0
-\0",
-    )
+\0";
+
+impl<R: Print + Eprint> Teller<'_, R> {
+    // An answer, or a part of one, on standard output; the status, unless it could not be written. `lent` is what the template's marks for text speak of.
+    pub fn tell(&self, status: Status, row: Row, numbers: &[u64], lent: &[u8]) -> Told {
+        self.tell_to(To::Output, row, numbers, lent)?;
+        Ok(status)
+    }
+
+    pub(crate) fn tell_to(&self, to: To, row: Row, numbers: &[u64], lent: &[u8]) -> Told<()> {
+        match half_of(self.manner, row) {
+            Some(half) => put_half(self.rt, to, half, numbers, lent),
+            None => Ok(()),
+        }
+    }
+
+    // Bytes on standard output.
+    pub fn put(&self, bytes: &[u8]) -> Told {
+        put_on(self.rt, To::Output, bytes)?;
+        Ok(Status::Done)
+    }
 }
 
-fn put_template(
+// Which half of all: none, where only the status is wanted.
+fn half_of(manner: Manner, row: Row) -> Option<usize> {
+    match manner {
+        Manner::Words => Some(2 * row as usize),
+        Manner::Plain => Some(2 * row as usize + 1),
+        Manner::Quiet => None,
+    }
+}
+
+fn put_half(
     rt: &(impl Print + Eprint),
     to: To,
-    status: Status,
     half: usize,
     numbers: &[u64],
     lent: &[u8],
-    templates: &[u8],
-) -> Status {
+) -> Told<()> {
     let mut page = [0u8; PAGE];
-    let size = fill(
-        &mut page,
-        0,
-        piece(templates, HALF_END, half),
-        numbers,
-        lent,
-    );
-    put_on(rt, to, &page[..size], status)
+    let template = piece(TEMPLATES, HALF_END, half);
+    let size = fill(&mut page, 0, template, numbers, lent);
+    put_on(rt, to, &page[..size])
 }
 
-// Bytes on standard output, and the status, unless they could not be written.
-pub fn put(rt: &(impl Print + Eprint), bytes: &[u8], status: Status) -> Status {
-    put_on(rt, To::Output, bytes, status)
-}
-
-fn put_on(rt: &(impl Print + Eprint), to: To, bytes: &[u8], status: Status) -> Status {
-    match write(rt, to, bytes) {
-        Ok(()) => status,
-        Err(error) => {
-            errors::fail(rt, b"emp: cannot write the answer", error);
-            Status::Complained
-        }
-    }
+fn put_on(rt: &(impl Print + Eprint), to: To, bytes: &[u8]) -> Told<()> {
+    write(rt, to, bytes).map_err(|error| {
+        errors::fail(rt, b"emp: cannot write the answer", error);
+        Complained
+    })
 }
 
 fn write(rt: &(impl Print + Eprint), to: To, bytes: &[u8]) -> Result<()> {
@@ -222,23 +204,11 @@ fn write(rt: &(impl Print + Eprint), to: To, bytes: &[u8]) -> Result<()> {
 }
 
 // One line on standard error: the one half of a complaint with a text in it, and then the other with another.
-pub fn complain(rt: &(impl Print + Eprint), row: usize, text: &[u8], other: &[u8]) -> Status {
+pub fn complain(rt: &(impl Print + Eprint), row: Row, text: &[u8], other: &[u8]) -> Complained {
     let front = [0, SHOWN];
-    put_by(
-        rt,
-        To::Errors,
-        Status::Complained,
-        half_of(Manner::Words, row),
-        &front,
-        text,
-    );
-    put_by(
-        rt,
-        To::Errors,
-        Status::Complained,
-        half_of(Manner::Plain, row),
-        &front,
-        other,
-    );
-    Status::Complained
+    let manner = Manner::Words;
+    let _ = Teller { rt, manner }.tell_to(To::Errors, row, &front, text);
+    let manner = Manner::Plain;
+    let _ = Teller { rt, manner }.tell_to(To::Errors, row, &front, other);
+    Complained
 }

@@ -1,9 +1,0 @@
--- `golden_files::list_records`: stays inside, and ends.
-use Rattle.std.proofs.Common.{◌-◌, ◌≤◌}
-use Rattle.emp.proofs.golden_files.list_records.Given as goal
-
-abbrev pub invariant-loop-n : goal.invariant-loop-n
-invariant-loop-n g l = l.n ≤ l.records
-
-abbrev pub decreases-loop-n : goal.decreases-loop-n
-decreases-loop-n g l = l.records - l.n

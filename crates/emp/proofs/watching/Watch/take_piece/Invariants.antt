@@ -1,0 +1,6 @@
+-- `Watch::take_piece` has a byte less at least each time, and ends.
+use Rattle.std.proofs.Common.{length}
+use Rattle.emp.proofs.watching.Watch.take_piece.Given as goal
+
+abbrev pub decreases-loop-left : goal.decreases-loop-left
+decreases-loop-left g l = length l.left
