@@ -47,6 +47,8 @@ fn run(out: &mut impl Write, text: &[u8], world: &mut World) -> Result<(), Stop>
     Ok(())
 }
 
+// What is written to, the line and what it works on stay apart: a struct of them would be taken apart in each command, since each works on another
+// part of the world.
 fn answer(out: &mut impl Write, command: Word, line: Line, world: &mut World) -> Result<(), Stop> {
     let name = str::from_utf8(command.bytes).unwrap_or("");
     match name {

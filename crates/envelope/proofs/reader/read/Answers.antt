@@ -69,7 +69,7 @@ returns-then-announced_length-bytes c =
     let at = goal.at.returns-then-announced_length-bytes c in
     let h = header at.After-unwrap-header in
     let five = ne_eqb _ _ (λ e. c.if-announced_length-bytes.true (c.announced_length.ensures ∙ h.announced ∙ e)) in
-    rw (c.at.ensures, whole at.In_ok-judge_heading h, five)
+    rw (c.at-then-announced_length-bytes.ensures, whole at.In_ok-judge_heading h, five)
 
 pub addressing_of-requires : goal.addressing_of-requires
 addressing_of-requires c =
