@@ -1,4 +1,4 @@
--- Laws of a record: a scan for bytes that are not zero, and what a judgement says of the record's parts.
+-- Laws of a record: what zeros behind its message are, and what a judgement says of its parts.
 -- `Good` has everything that a good record keeps, be it live or retired.
 use mathlib.Core.Bool.{Bool, true, false, not}
 use mathlib.Core.List.{List, [], ◌∷◌}

@@ -33,6 +33,7 @@ pub fn check(file: &[u8]) -> Result<usize, RefusedAt>
 }
 
 // A bucket for each name, by type plus number. Names that follow each other in type or number have buckets apart; those a multiple of 256 apart share one.
+#[tactic(auto, unfolding(crate::specs::Helpers::bucket_of))]
 fn bucket_of(name: Name) -> usize
     ensures { (result ≡ bucket_of (told_name name)) × (result < buckets) }
 {

@@ -37,6 +37,7 @@ fn list_positions(golden: &[u8], radio: &[u8], list: &mut [u32]) -> usize
     total
 }
 
+#[tactic(auto, unfolding(crate::specs::Comparing::differs_at))]
 fn differ_at(golden: &[u8], radio: &[u8], position: usize) -> bool
     ensures { result ≡ differs_at golden.now radio.now position }
 {

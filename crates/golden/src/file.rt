@@ -8,6 +8,7 @@ ghost use Rattle.golden.specs.Record.{record_size};
 use crate::record::{GoodRecord, Record, open};
 use crate::refusal::Refusal;
 
+#[tactic(auto, unfolding(crate::specs::File::bad_file, crate::specs::Listing::counting))]
 pub fn count(file: &[u8]) -> Result<usize, Refusal>
     ensures { Counts file.now result }
 {

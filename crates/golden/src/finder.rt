@@ -26,12 +26,14 @@ impl From<GoodRecord> for Name {
     }
 }
 
+// The record found, and how many were opened.
 #[derive(Clone, Copy)]
 pub struct Found {
     pub record: usize,
     pub opened: usize,
 }
 
+// A refusal, and how many records were opened.
 #[derive(Clone, Copy)]
 pub struct RefusedAfter {
     pub refusal: Refusal,

@@ -19,6 +19,7 @@ pub fn find_by_halving(file: &[u8], name: Name) -> Result<Found, RefusedAfter>
         match Name::from(good).cmp(&name) {
             Ordering::Less => first = middle + 1,
             Ordering::Greater => end = middle,
+            // a retired match is none, and there is no other
             Ordering::Equal if good.retired => break,
             Ordering::Equal => return Ok(Found {
                 record: middle,

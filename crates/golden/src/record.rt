@@ -76,6 +76,7 @@ pub(crate) fn open(bytes: &[u8]) -> Result<GoodRecord, Refusal>
     })
 }
 
+#[tactic(auto, unfolding(crate::specs::Record::stored_length))]
 pub(crate) fn stored_length(bytes: &[u8]) -> usize
     requires { length bytes.now ≡ record_size }
     ensures { result ≡ stored_length bytes.now }
@@ -83,6 +84,7 @@ pub(crate) fn stored_length(bytes: &[u8]) -> usize
     (stored_word(bytes) % Record::RETIRED_MARK) as usize
 }
 
+#[tactic(auto, unfolding(crate::specs::Record::is_retired))]
 pub(crate) fn is_retired(bytes: &[u8]) -> bool
     requires { length bytes.now ≡ record_size }
     ensures { result ≡ is_retired bytes.now }
@@ -90,6 +92,7 @@ pub(crate) fn is_retired(bytes: &[u8]) -> bool
     Record::RETIRED_MARK <= stored_word(bytes)
 }
 
+#[tactic(auto, using(envelope::proofs::RuleLaws::two_at_is), unfolding(crate::specs::Record::stored_word))]
 fn stored_word(bytes: &[u8]) -> u16
     requires { length bytes.now ≡ record_size }
     ensures { result ≡ stored_word bytes.now }
@@ -97,6 +100,7 @@ fn stored_word(bytes: &[u8]) -> u16
     two_bytes(bytes[0], bytes[1])
 }
 
+#[tactic(auto, unfolding(crate::specs::Record::bad_length))]
 fn bad_length(size: usize) -> bool
     ensures { result ≡ bad_length size }
 {
