@@ -5,7 +5,7 @@ use mathlib.Core.List.{List, [], ◌∷◌, ◌++◌}
 use mathlib.Core.Path.{◌≡◌, refl, ap, ap₂, sym, ◌∙◌}
 use Prim.Native.Nat.{ℕ, ◌+◌, ◌≤◌, ◌<◌}
 use native.Mathlib.Omega.{arith}
-use borrow.Author.Tests.{le-ltb, lt-ltb, ltb-false}
+use borrow.Author.Tests.{le-ltb, ltb-false}
 use lib.Dec.{ltb}
 use lib.ListN.{length, length-append, get_or-append}
 use lib.Seq.{take-append_seam, drop-append_seam}
@@ -27,22 +27,6 @@ same_length s rest h =
 
 smaller_second : (a b : ℕ) → b ≤ a → smaller a b ≡ b
 smaller_second a b h = rw (le-ltb a b h)
-
--- ---- the three cases
-
-module _ (s : List ℕ) where
-  pub first_short : length s < least_size → length s ≡ first_size s
-  unfolding first_size
-  first_short h = rw (lt-ltb (length s) least_size h)
-
-  module _ (n : ℕ) (long : least_size ≤ length s) (e : n ≡ data_length s) where
-    pub first_missing : length s < least_size + n → length s ≡ first_size s
-    unfolding first_size
-    first_missing h = rw (le-ltb (length s) least_size long, ← e, lt-ltb (length s) (least_size + n) h)
-
-    pub first_stated : least_size + n ≤ length s → least_size + n ≡ first_size s
-    unfolding first_size
-    first_stated h = rw (le-ltb (length s) least_size long, ← e, le-ltb (length s) (least_size + n) h)
 
 -- ---- what is found
 

@@ -1,5 +1,4 @@
 pub mod PutLaws
-pub mod TypeLaws
 pub mod UnwrapLaws
 pub mod WrapLaws
 pub mod RoundTripLaws

@@ -118,7 +118,7 @@ unfolding wrapping
 wrapped_then_unwrapped m commid room s = go (reading m) refl
   where
     go : (a : Answer) → reading m ≡ a → wrap.wrapping_read a m commid room ≡ written s → UnwrapsAs s commid m
-    go (refused r) e d = let z : ◌≡◌ {A = ℕ} 0 1 = cc in absurd (omega arith)
+    go (refused r) e d = cc
     go (accepted f) e d =
         rw (← only_frame (ltb largest_length (length m)) (ltb room (length (data_frame commid m))) (data_frame commid m) s d) (unwraps_as m commid f e)
 
@@ -139,7 +139,7 @@ front_of (written s) entry exit r n w e =
   where
     same : (m n : ℕ) → wrote m ≡ wrote n → m ≡ n
     same m n e = cc
-front_of (refused x) entry exit r n w e = let z : wrote n ≡ refused x = sym e ∙ w.0 in let y : ◌≡◌ {A = ℕ} 0 1 = cc in absurd (omega arith)
+front_of (refused x) entry exit r n w e = let z : wrote n ≡ refused x = sym e ∙ w.0 in cc
 
 pub wrapped_buffer_then_unwrapped : WrappedBufferThenUnwrapped
 wrapped_buffer_then_unwrapped m commid entry exit r n u w e h =
@@ -231,7 +231,7 @@ carried s commid p f e = go (eqb (type_of s) acknowledgment_type) refl (sym i.ca
     i = opened s (ap is_frame e)
 
     read_as : (a : Answer) → reading (part_of s (body_span s)) ≡ a → eqb (type_of s) acknowledgment_type ≡ false → unwrapping_read a s ≡ message commid p f → Carried s commid p f
-    read_as (refused r) ea et d = let z : ◌≡◌ {A = ℕ} 0 1 = cc in absurd (omega arith)
+    read_as (refused r) ea et d = cc
     read_as (accepted g) ea et d =
         let ep : body_span s ≡ p = cc in
         let eg : g ≡ f = cc in
@@ -244,7 +244,7 @@ carried s commid p f e = go (eqb (type_of s) acknowledgment_type) refl (sym i.ca
         }
 
     go : (b : Bool) → eqb (type_of s) acknowledgment_type ≡ b → cond b (acknowledgment (commid_of s) (acknowledged_of s)) (unwrapping_read (reading (part_of s (body_span s))) s) ≡ message commid p f → Carried s commid p f
-    go true et d = let z : ◌≡◌ {A = ℕ} 0 1 = cc in absurd (omega arith)
+    go true et d = cc
     go false et d = read_as (reading (part_of s (body_span s))) refl et d
 
 data_frame_of : (s : List ℕ) (commid : ℕ) (p : Span) (f : Fields) → Bytes s → unwrapping s ≡ message commid p f → data_frame commid (part_of s p) ≡ s
@@ -286,8 +286,8 @@ heard s commid acknowledged e = go (eqb (type_of s) acknowledgment_type) refl (s
     i = opened s (ap is_frame e)
 
     not_message : (a : Answer) → unwrapping_read a s ≡ acknowledgment commid acknowledged → ⊥
-    not_message (refused r) d = let z : ◌≡◌ {A = ℕ} 0 1 = cc in omega arith
-    not_message (accepted g) d = let z : ◌≡◌ {A = ℕ} 0 1 = cc in omega arith
+    not_message (refused r) d = cc
+    not_message (accepted g) d = cc
 
     go : (b : Bool) → eqb (type_of s) acknowledgment_type ≡ b → cond b (acknowledgment (commid_of s) (acknowledged_of s)) (unwrapping_read (reading (part_of s (body_span s))) s) ≡ acknowledgment commid acknowledged → Heard s commid acknowledged
     go true et d = record { whole = i.frame; type_is = eqb-true _ _ et; commid_is = cc; acknowledged_is = cc }
@@ -327,7 +327,7 @@ one_or_the_other s bytes = go (unwrapping s) refl
     go : (a : UnwrapAnswer) → unwrapping s ≡ a → is_frame (unwrapping s) ≡ true → Kind s
     go (message commid p f) e h = data_message commid (part_of s p) (data_frame_of s commid p f bytes e)
     go (acknowledgment commid acknowledged) e h = an_acknowledgment commid acknowledged (acknowledgment_frame_of s commid acknowledged bytes e)
-    go (unwrap.refused r) e h = let x : false ≡ true = sym (ap is_frame e) ∙ h in let z : ◌≡◌ {A = ℕ} 0 1 = cc in absurd (omega arith)
+    go (unwrap.refused r) e h = let x : false ≡ true = sym (ap is_frame e) ∙ h in cc
 
 pub never_both : NeverBoth
 unfolding frame

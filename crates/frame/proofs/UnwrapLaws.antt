@@ -5,7 +5,7 @@ use mathlib.Core.List.{List, [], ◌∷◌}
 use mathlib.Core.Path.{◌≡◌, refl, ap, ◌∙◌, subst}
 use Prim.Native.Nat.{ℕ, ◌+◌, ◌-◌, ◌≤◌}
 use native.Mathlib.Omega.{arith}
-use borrow.Author.Tests.{eqb-true, ltb-false, not-false, le-ltb, eq-eqb, ne_eqb}
+use borrow.Author.Tests.{eqb-true, ltb-false, not-false, le-ltb, eq-eqb}
 use lib.Dec.{eqb}
 use lib.ListN.{length, take, drop}
 use Rattle.envelope.proofs.BoolLaws.{neither}
@@ -13,7 +13,7 @@ use Rattle.envelope.specs.Fields.{Fields, Answer, accepted, refused, part_of}
 use Rattle.envelope.specs.Fields as fields
 use Rattle.envelope.specs.Numbers.{byte_at}
 use Rattle.envelope.specs.Reading.{reading}
-use Rattle.envelope.specs.Refusals.{plainly, passing_on, among, Gives}
+use Rattle.envelope.specs.Refusals.{plainly, among, Gives}
 use Rattle.frame.specs.Unwrapping.{type_of, commid_of, data_length, acknowledged_of, body_span, too_short, no_stx, wrong_version, other_type, wrong_length, no_etx, UnwrapAnswer, message, acknowledgment, refused, unwrapping_read, carrying, unwrapping, UnwrapGives}
 use Rattle.frame.specs.Capturing.{is_frame}
 use Rattle.frame.specs.Layout.{stx, etx, protocol_version, message_version, data_type, acknowledgment_type, stx_place, protocol_version_place, message_version_place, body_place, least_size, commid_size}
@@ -30,12 +30,6 @@ unfolding wrong_length
 acknowledgment_whole t n given e a =
     let both = (neither (not (eqb (least_size + n) given)) (eqb t acknowledgment_type && not (eqb n commid_size)) e).1 in
     eqb-true n commid_size (not-false _ (rw (eq-eqb t acknowledgment_type a) at both))
-
-pub etx_missing : (s : List ℕ) (n : ℕ) → n ≡ data_length s → (byte_at s (body_place + n) ≡ etx → ⊥) → no_etx s ≡ true
-etx_missing s n e h = rw (← e, ne_eqb _ _ h)
-
-pub etx_there : (s : List ℕ) (n : ℕ) → n ≡ data_length s → byte_at s (body_place + n) ≡ etx → no_etx s ≡ false
-etx_there s n e h = rw (← e, eq-eqb _ _ h)
 
 -- ---- what a whole frame carries
 
@@ -56,11 +50,6 @@ module _ (s : List ℕ) (t commid : ℕ) (ec : commid ≡ commid_of s) where
         → message commid (record { place = body_place; size = end - body_place }) f ≡ carrying s t
     unfolding carrying
     carries_message f e = rw (a, ← body, e, ec, size)
-
-    pub carries_refused : (r : fields.Refusal) → reading (take (end - body_place) (drop body_place s)) ≡ refused r
-        → refused (passing_on 67 r) ≡ carrying s t
-    unfolding carrying
-    carries_refused r e = rw (a, ← body, e)
 
 -- ---- what is opened is whole
 

@@ -2,10 +2,10 @@
 -- Rests on one law of the envelope: the longest accepted message.
 use mathlib.Core.Bool.{Bool, true, false, cond}
 use mathlib.Core.List.{List, [], ◌∷◌}
-use mathlib.Core.Path.{◌≡◌, refl, ap, sym, ◌∙◌, subst}
-use Prim.Native.Nat.{ℕ, ◌+◌, ◌≤◌, ◌<◌}
+use mathlib.Core.Path.{◌≡◌, refl, sym, ◌∙◌, subst}
+use Prim.Native.Nat.{ℕ, ◌+◌, ◌≤◌}
 use native.Mathlib.Omega.{arith}
-use borrow.Author.Tests.{lt-ltb, le-ltb}
+use borrow.Author.Tests.{le-ltb}
 use lib.Dec.{ltb}
 use lib.ListN.{length}
 use Rattle.envelope.proofs.ReadingLaws.{accepted_most}
@@ -13,16 +13,13 @@ use Rattle.envelope.specs.Fields.{Fields, Answer, accepted, refused}
 use Rattle.envelope.specs.Fields as fields
 use Rattle.envelope.specs.Promise.{Bytes}
 use Rattle.envelope.specs.Reading.{reading}
-use Rattle.envelope.specs.Refusals.{Refused, plainly, passing_on, Gives}
-use Rattle.frame.specs.Wrapping.{WrapOutcome, written, refused, fitting, wrapping, acknowledging, put_down, after_wrapping, wrote, answer_to_wrapping, Never69, RefusalWritesNothing, WrapGives, AcknowledgeGives}
+use Rattle.envelope.specs.Refusals.{plainly, passing_on, Gives}
+use Rattle.frame.specs.Wrapping.{WrapOutcome, written, refused, fitting, wrapping, acknowledging, wrote, Never69, RefusalWritesNothing, WrapGives, AcknowledgeGives}
 use Rattle.frame.specs.Frames.{frame, data_frame, acknowledgment_frame}
 use Rattle.frame.specs.Layout.{least_size, largest_length}
 use Rattle.frame.proofs.PutLaws.{frame-length}
 
 -- ---- the cases
-
-pub no_room : (t commid : ℕ) (body : List ℕ) (room : ℕ) → room < least_size + length body → fitting (frame t commid body) room ≡ refused (plainly 68)
-no_room t commid body room h = rw (lt-ltb room (length (frame t commid body)) (omega (arith, frame-length t commid body)))
 
 pub room_enough : (t commid : ℕ) (body : List ℕ) (room : ℕ) → least_size + length body ≤ room → fitting (frame t commid body) room ≡ written (frame t commid body)
 room_enough t commid body room h = rw (le-ltb room (length (frame t commid body)) (omega (arith, frame-length t commid body)))
@@ -39,27 +36,20 @@ pub past_69 : (m : List ℕ) (commid room : ℕ) (f : Fields) → Bytes m → re
 unfolding wrapping
 past_69 m commid room f bytes e = rw (e, le-ltb largest_length (length m) (short_enough m f bytes e))
 
--- ---- the answer and the buffer, of a known outcome
-
-pub answers_refused : (o : WrapOutcome) (entry : List ℕ) (r : Refused) → o ≡ refused r → (refused r ≡ answer_to_wrapping o) × (entry ≡ after_wrapping o entry)
-answers_refused o entry r e = (rw e, rw e)
-
-pub answers_written : (o : WrapOutcome) (t commid : ℕ) (body entry exit : List ℕ) (n : ℕ) → o ≡ written (frame t commid body) → n ≡ least_size + length body
-    → exit ≡ put_down (frame t commid body) entry → (wrote n ≡ answer_to_wrapping o) × (exit ≡ after_wrapping o entry)
-answers_written o t commid body entry exit n e en ee =
-    (ap wrote (en ∙ sym (frame-length t commid body)) ∙ rw e, ee ∙ rw e)
+-- what the code asks of a frame's size
+pub ruleset sizes = (frame-length, short_enough)
 
 -- ---- 69, and what a refusal leaves
 
 not_69 : (b : Bool) (frame : List ℕ) → cond b (refused (plainly 68)) (written frame) ≡ refused (plainly 69) → ⊥
 not_69 true frame e = let z : ◌≡◌ {A = ℕ} 68 69 = cc in omega arith
-not_69 false frame e = let z : ◌≡◌ {A = ℕ} 0 1 = cc in omega arith
+not_69 false frame e = cc
 
 pub never_69 : Never69
 never_69 m commid room bytes = go (reading m) refl
   where
     go : (a : Answer) → reading m ≡ a → wrapping m commid room ≡ refused (plainly 69) → ⊥
-    go (refused r) e d = let x = sym (is_67 m commid room r e) ∙ d in let z : ◌≡◌ {A = ℕ} 0 1 = cc in omega arith
+    go (refused r) e d = let x = sym (is_67 m commid room r e) ∙ d in cc
     go (accepted f) e d = not_69 (ltb room (length (data_frame commid m))) (data_frame commid m) (sym (past_69 m commid room f bytes e) ∙ d)
 
 pub refusal_writes_nothing : RefusalWritesNothing

@@ -5,6 +5,7 @@ use crate::layout;
 use crate::unwrapper::four_at;
 
 // How many bytes the first frame of a capture has, as it states itself: all that there are, where they are fewer.
+#[tactic(auto, unfolding(crate::specs::Capturing::first_size))]
 pub fn first(capture: &[u8]) -> usize
     ensures { MeasuresFirst capture.now result }
 {
@@ -12,8 +13,5 @@ pub fn first(capture: &[u8]) -> usize
         return capture.len();
     }
     let stated = layout::LEAST_SIZE + four_at(capture, layout::LENGTH_PLACE) as usize;
-    if capture.len() < stated {
-        return capture.len();
-    }
-    stated
+    stated.min(capture.len())
 }

@@ -4,7 +4,7 @@ ghost use Rattle.frame.specs.Types.{NumbersType, TypeOfNumber};
 use crate::refusal::Refusal;
 
 // Each by its number.
-#[derive(Clone, Copy, Debug, PartialEq, Eq)]
+#[derive(Clone, Copy, PartialEq, Eq)]
 pub enum FrameType {
     Data = 1,
     Acknowledgment = 2,

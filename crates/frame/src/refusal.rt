@@ -25,7 +25,7 @@ impl From<envelope::Refusal> for Refusal {
     }
 }
 
-// The number of the table of refusals alone.
+// The number of the table of refusals alone; by a match, for one variant holds a value.
 impl From<Refusal> for u8 {
     ghost from_gives = { NumbersFrameAlone };
 

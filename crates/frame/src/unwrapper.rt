@@ -32,6 +32,7 @@ pub enum Unwrapped {
     Acknowledged(Acknowledgment),
 }
 
+#[tactic(auto, unfolding(crate::specs::Unwrapping::unwrapping, crate::specs::Unwrapping::other_type, crate::specs::Unwrapping::wrong_length))]
 pub fn unwrap(bytes: &[u8]) -> Result<Unwrapped, Refusal>
     ensures { Unwraps bytes.now result }
 {
@@ -78,6 +79,7 @@ fn wrong_length(frame_type: FrameType, size: u32, given: usize) -> bool
 }
 
 // What a whole frame carries; its body ends before `end`.
+#[tactic(auto, unfolding(crate::specs::Unwrapping::carrying, crate::specs::Unwrapping::wrong_length))]
 fn carried_by(bytes: &[u8], frame_type: FrameType, end: usize) -> Result<Unwrapped, Refusal>
     requires { (end < length bytes.now) × (end ≡ body_place + data_length bytes.now) × (wrong_length (told_type frame_type) (data_length bytes.now) (length bytes.now) ≡ false) }
     ensures { told_unwrapped result ≡ carrying bytes.now (told_type frame_type) }

@@ -12,6 +12,7 @@ use crate::refusal::Refusal;
 use envelope::numbers::four_digits;
 use envelope::read;
 
+#[tactic(auto, using(crate::proofs::WrapLaws::sizes), unfolding(crate::specs::Wrapping::wrapping))]
 pub fn wrap(message: &[u8], commid: u32, buffer: &mut [u8]) -> Result<usize, Refusal>
     ensures { Wraps message.now commid buffer.old result buffer.new }
 {
@@ -25,6 +26,7 @@ pub fn wrap(message: &[u8], commid: u32, buffer: &mut [u8]) -> Result<usize, Ref
 }
 
 // Acknowledges a COMMID; the acknowledgment has a COMMID of its own.
+#[tactic(auto, using(crate::proofs::WrapLaws::sizes), unfolding(crate::specs::Wrapping::acknowledging))]
 pub fn acknowledge(commid: u32, acknowledged: u32, buffer: &mut [u8]) -> Result<usize, Refusal>
     ensures { Acknowledges commid acknowledged buffer.old result buffer.new }
 {
@@ -37,6 +39,7 @@ pub fn acknowledge(commid: u32, acknowledged: u32, buffer: &mut [u8]) -> Result<
 }
 
 // A whole frame, at the front of a buffer that has room for it.
+#[tactic(auto, using(crate::proofs::PutLaws::put_down_lem))]
 fn put_frame(frame_type: FrameType, commid: u32, body: &[u8], buffer: &mut [u8])
     requires { (least_size + length body.now ≤ length buffer.old) × (length body.now ≤ largest_length) }
     ensures { buffer.new ≡ put_down (frame (told_type frame_type) commid body.now) buffer.old }

@@ -14,6 +14,7 @@ const ALL_ONES: u32 = 0xFFFF_FFFF;
 const ROOM: usize = 4;
 
 // The remainder of the message, read backwards and inverted: its CRC. The division has the highest power first, a CRC has it last.
+#[tactic(auto, using(crate::proofs::StepLaws::bytes_down), unfolding(crate::specs::Division::divided))]
 pub fn divide(bytes: &[u8]) -> u32
     ensures { Divides bytes.now result }
 {
@@ -25,7 +26,7 @@ pub fn divide(bytes: &[u8]) -> u32
 }
 
 // Byte i of what is divided: the message, then four zeros, and the first four of all inverted.
-#[tactic(auto, using(crate::proofs::StepLaws::divided_first, crate::proofs::StepLaws::divided_later))]
+#[tactic(auto, using(crate::proofs::StepLaws::dividend_bytes))]
 fn dividend_byte(bytes: &[u8], i: usize) -> u8
     ensures { result ≡ get_or (divided_bytes bytes.now) i 0 }
 {
@@ -34,6 +35,7 @@ fn dividend_byte(bytes: &[u8], i: usize) -> u8
 }
 
 // The eight digits of a byte, the lowest first.
+#[tactic(auto, using(crate::proofs::StepLaws::digits_down))]
 fn byte_down(left: u32, byte: u8) -> u32
     ensures { result ≡ remainder left (bits_of_byte byte) }
 {

@@ -7,7 +7,7 @@ ghost use Rattle.judge.specs.Told.{Judges, TellsLowest};
 use crate::rules;
 use envelope::{Fault, Refusal};
 
-// What became of a rule. One that was not judged counts as not broken.
+// What became of a rule. One that was not judged counts as not broken. Three outcomes: neither Option nor Result has a name for each.
 #[derive(Clone, Copy)]
 pub enum Verdict {
     Kept,

@@ -60,12 +60,12 @@ pub(crate) fn variable_size(bytes: &[u8]) -> Verdict
     }
     verdict(
         Envelope::VARIABLE_SIZE_PLACE,
-        bad_variable_size(size_in(bytes)),
+        bad_variable_size(usize::from(size_in(bytes))),
     )
 }
 
 // 5: 17 + V + D + 4 is not the number of bytes lent.
-#[tactic(auto, unfolding(crate::specs::Rules::length_rule))]
+#[tactic(auto, using(envelope::proofs::HeadingLaws::announced_is), unfolding(crate::specs::Rules::length_rule))]
 pub(crate) fn length(bytes: &[u8]) -> Verdict
     ensures { told_verdict result ≡ length_rule bytes.now }
 {
@@ -79,13 +79,14 @@ pub(crate) fn length(bytes: &[u8]) -> Verdict
 }
 
 // 6: V is not 0 and the addresses break their rule. Judged for V from 6 to 132 alone, on bytes 21 to 16 + V.
+#[tactic(auto, using(envelope::proofs::AddressLaws::addresses_present), unfolding(crate::specs::Rules::addresses_rule))]
 pub(crate) fn addresses(bytes: &[u8]) -> Verdict
     ensures { told_verdict result ≡ addresses_rule bytes.now }
 {
     if bytes.len() < Envelope::HEADER_SIZE {
         return Verdict::NotJudged;
     }
-    let v = size_in(bytes);
+    let v = usize::from(size_in(bytes));
     let end = Envelope::HEADER_SIZE + v;
     if v < Envelope::SMALLEST_VARIABLE || Envelope::LARGEST_VARIABLE < v || bytes.len() < end {
         return Verdict::NotJudged;
@@ -98,6 +99,7 @@ pub(crate) fn addresses(bytes: &[u8]) -> Verdict
 
 // 7: kind none with a non-zero integrity field, or kind CRC with a field that is not the CRC.
 // The field is the four bytes from place 17 + V + D, wherever the bytes lent end.
+#[tactic(auto, using(envelope::proofs::HeadingLaws::announced_is), unfolding(crate::specs::Rules::integrity_rule))]
 pub(crate) fn integrity(bytes: &[u8]) -> Verdict
     ensures { told_verdict result ≡ integrity_rule bytes.now }
 {
@@ -140,6 +142,7 @@ fn bad_variable_size(v: usize) -> bool
 }
 
 // The region is not two addresses, each at most 64 bytes with its closing zero.
+#[tactic(auto, using(envelope::proofs::AddressLaws::scanned_two, envelope::proofs::AddressLaws::not_two, envelope::proofs::AddressLaws::destination_is))]
 fn bad_region(region: &[u8]) -> bool
     ensures { result ≡ not (two_addresses region.now) }
 {
@@ -151,6 +154,7 @@ fn bad_region(region: &[u8]) -> bool
     Envelope::LARGEST_ADDRESS <= destination || source + 1 + (destination + 1) != region.len()
 }
 
+#[tactic(auto, using(envelope::proofs::RuleLaws::four_at_is), unfolding(envelope::specs::IntegrityField::bad_integrity))]
 fn bad_integrity(bytes: &[u8], kind: Kind, place: usize) -> bool
     requires { place + field_size ≤ length bytes.now }
     ensures { result ≡ bad_integrity bytes.now (told_kind kind) place }
@@ -180,12 +184,12 @@ fn kind_in(flags: u8) -> Kind
     }
 }
 
-// V. A byte, which is said too: the sums below then stay in bounds.
-fn size_in(bytes: &[u8]) -> usize
+// V.
+fn size_in(bytes: &[u8]) -> u8
     requires { header_size ≤ length bytes.now }
-    ensures { (result ≡ variable_size bytes.now) × (result < 256) }
+    ensures { result ≡ variable_size bytes.now }
 {
-    bytes[Envelope::VARIABLE_SIZE_PLACE] as usize
+    bytes[Envelope::VARIABLE_SIZE_PLACE]
 }
 
 // Where the integrity field should stand: 17 + V + D. That D is a u32 is all that the bound needs.
@@ -199,7 +203,7 @@ fn place_in(bytes: &[u8]) -> usize
         bytes[Envelope::DATA_LENGTH_PLACE + 1],
         bytes[Envelope::DATA_LENGTH_PLACE + 2],
     );
-    Envelope::HEADER_SIZE + size_in(bytes) + (d as usize)
+    Envelope::HEADER_SIZE + usize::from(size_in(bytes)) + d as usize
 }
 
 // How many bytes stand before the first zero.

@@ -7,7 +7,7 @@ use crate::layout::Layout;
 use envelope::Envelope;
 
 // The fields in the order of the table, and what lies past the message.
-#[derive(Clone, Copy, Debug, PartialEq, Eq)]
+#[derive(Clone, Copy)]
 pub enum Field {
     HeaderVersion,
     MessageType,

@@ -2,7 +2,7 @@
 // Rests on `envelope` for the table's numbers; it takes any bytes, and one that is not there counts as 0.
 ghost use Rattle.std.specs.Prelude.{◌≡◌, ◌<◌};
 ghost use Rattle.envelope.specs.Addresses.{region_of, source_size};
-ghost use Rattle.envelope.specs.Heading.{variable_size, data_length};
+ghost use Rattle.envelope.specs.Heading.{data_length};
 ghost use Rattle.envelope.specs.Numbers.{byte_at};
 ghost use Rattle.layout.specs.Layout.{LaidOut};
 
@@ -18,26 +18,21 @@ pub struct Layout {
 }
 
 // Where there are no addresses the body follows the header, and no place is asked of a destination.
+#[tactic(auto, unfolding(crate::specs::Layout::layout_of))]
 pub fn layout_of(message: &[u8]) -> Layout
     ensures { LaidOut message.now result }
 {
-    let v = variable_size(message);
+    let v = byte_at(message, Envelope::VARIABLE_SIZE_PLACE);
     let source = source_size(message, v);
     Layout {
         destination: Envelope::ADDRESSES_PLACE + source + 1,
-        body: Envelope::HEADER_SIZE + v,
+        body: Envelope::HEADER_SIZE + usize::from(v),
         body_size: data_length(message),
     }
 }
 
-// V. A byte, which is said too: the sums above then stay in bounds.
-fn variable_size(message: &[u8]) -> usize
-    ensures { (result ≡ variable_size message.now) × (result < 256) }
-{
-    byte_at(message, Envelope::VARIABLE_SIZE_PLACE) as usize
-}
-
 // D.
+#[tactic(auto, unfolding(envelope::specs::Numbers::three_at))]
 fn data_length(message: &[u8]) -> usize
     ensures { result ≡ data_length message.now }
 {
@@ -50,13 +45,12 @@ fn data_length(message: &[u8]) -> usize
 }
 
 // The source without its zero, in the V - 4 bytes after TTL and QoS, as far as they reach. A V below 4 leaves no room for addresses.
-fn source_size(message: &[u8], v: usize) -> usize
-    requires { v < 256 }
+fn source_size(message: &[u8], v: u8) -> usize
     ensures { (result ≡ source_size (region_of message.now v)) × (result < 256) }
 {
     let region = Part {
         place: Envelope::ADDRESSES_PLACE,
-        size: v.saturating_sub(Envelope::ROUTING_SIZE),
+        size: usize::from(v).saturating_sub(Envelope::ROUTING_SIZE),
     };
     first_zero(region.slice(message))
 }

@@ -1,5 +1,5 @@
 // Which field of the envelope's table a place of a message lies in, by the message's bytes alone.
-// Rests on `envelope`, for the table's numbers, its big-endian numbers and its parts; it does not call `envelope::read`.
+// Rests on `envelope`, for the table's numbers, its big-endian numbers, its parts and its scan for a zero; it does not call `envelope::read`.
 #![tactic(auto)]
 
 pub mod field;

@@ -11,6 +11,7 @@ use Rattle.layout.proofs.layout.source_size.Goals as goal
 pub returns : goal.returns
 returns c =
     let s = c.args.message.now in
-    let region = c.slice.ensures ∙ ap (λ (n : ℕ). take n (drop addresses_place s)) c.saturating_sub.ensures in
+    let size = c.saturating_sub.ensures ∙ ap (λ (v : ℕ). v - routing_size) c.from.ensures in
+    let region = c.slice.ensures ∙ ap (λ (n : ℕ). take n (drop addresses_place s)) size in
     let few = length-take (c.args.v - routing_size) (drop addresses_place s) in
-    (c.first_zero.ensures ∙ ap first_zero region, omega (arith, c.first_zero.ensures, first_zero_most c.slice.result.now, ap length region, few, c.requires))
+    (c.first_zero.ensures ∙ ap first_zero region, omega (arith, c.first_zero.ensures, first_zero_most c.slice.result.now, ap length region, few, c.ranges.v.fits))
