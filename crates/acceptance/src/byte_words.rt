@@ -1,186 +1,183 @@
 // BYTES, words that each add bytes in one of four forms, and LIST, words that each add a number once or so many times, four bytes each.
-// Rests on `words` and `reader`.
-use crate::numbers::{BEGUN, END, at, place_at, put, slot};
-use crate::reader::{LEFT, MEMORY, most_of};
-use crate::words::{
-    Decimal, HEX, LONGEST, NO_NUMBER, PRINTABLE, TAKEN, all, between, bounded, byte_at, decimal_of,
-    judged, place_of,
-};
-use check::same;
-use std::num::wrapping_sub_u64;
+// Rests on `line` and `buffer`.
+use crate::buffer::Buffer;
+use crate::line::{FOUR, LONGEST, Line, Misfit, decimal};
+use crate::stop::{Expected, Stop};
+use std::iter;
 
-// The forms of a word.
-const NUMBERS: u8 = 1;
+// Room for the bytes of a line, and the most that one BYTES has.
+const ROOM: usize = 300_000;
 
-const QUOTED: u8 = 2;
+pub const MOST: u64 = ROOM as u64;
 
-const PAIRS: u8 = 3;
+// The most numbers of a LIST.
+pub const MOST_LISTED: usize = 600;
 
-const REPEATED: u8 = 4;
+// The bytes of a line, one BYTES behind another.
+pub type Bytes = Buffer<ROOM>;
 
-const PATTERN: u8 = 5;
-
-const UNFIT: u8 = 6;
-
-const NEXT: u8 = 7;
-
-// Adds what a word says, if it fits. The word that must follow is left, and so is the end of the line.
-pub fn byte_word(
-    word: &[u8],
-    token: &[u8],
-    numbers: &mut [u64; 16],
-    into: &mut [u8; MEMORY],
-) -> u8 {
-    let form = form_of(word, token);
-    let count = count_of(word, form, left(token, numbers));
-    let end = fill(
-        word,
-        form,
-        count.value as usize,
-        place_at(numbers, END),
-        into,
-    );
-    put(numbers, END, end as u64);
-    put(numbers, slot(byte_at(token, 1)), end as u64);
-    count.verdict
+// Where the bytes of one BYTES or LIST stand.
+#[derive(Clone, Copy)]
+pub struct Part {
+    from: usize,
+    to: usize,
 }
 
-// How many more there may be.
-fn left(token: &[u8], numbers: &[u64; 16]) -> u64 {
-    wrapping_sub_u64(
-        most_of(token, numbers),
-        wrapping_sub_u64(at(numbers, END), at(numbers, BEGUN)),
-    )
+// What words are: BYTES, with the most that there may be, or a LIST.
+#[derive(Clone, Copy)]
+enum Words {
+    Bytes(u64),
+    Numbers,
 }
 
-// Whether a word is not for this token: it is the one that must follow, or there is none.
-fn is_next(word: &[u8], token: &[u8]) -> bool {
-    word.len() == 0 || same(word, between(token, 4, token.len()))
-}
-
-fn form_of(word: &[u8], token: &[u8]) -> u8 {
-    if is_next(word, token) {
-        return NEXT;
-    }
-    match byte_at(token, 0) {
-        b'+' => if_so(number_of(word).verdict == TAKEN, NUMBERS),
-        _ => byte_form(word, place_of(word, 0, b'*')),
+impl Words {
+    fn expected(self, misfit: Misfit) -> Expected {
+        match (self, misfit) {
+            (Words::Bytes(_), Misfit::Form) => Expected::Bytes,
+            (Words::Bytes(most), Misfit::Size) => Expected::FewerBytes(most),
+            (Words::Numbers, Misfit::Form) => Expected::Number(FOUR),
+            (Words::Numbers, Misfit::Size) => Expected::FewerNumbers,
+        }
     }
 }
 
-// The number that a word of LIST enters.
-fn number_of(word: &[u8]) -> Decimal {
-    decimal_of(between(word, 0, place_of(word, 0, b'*')), 0xFFFF_FFFF)
-}
-
-fn byte_form(word: &[u8], star: usize) -> u8 {
-    if byte_at(word, 0) == b'\'' {
-        return if_so(is_quoted(word), QUOTED);
+impl Bytes {
+    pub fn of(&self, part: Part) -> &[u8] {
+        self.part(part.from, part.to)
     }
-    if star < word.len() {
-        return repeated_form(between(word, 0, star));
+
+    // BYTES up to the word that must follow, or to the end of the line.
+    pub fn read(&mut self, line: &mut Line, most: u64, next: &str) -> Result<Part, Stop> {
+        self.words(line, Words::Bytes(most), next)
     }
-    if_so(word.len() % 2 == 0 && all(word, HEX), PAIRS)
-}
 
-fn repeated_form(what: &[u8]) -> u8 {
-    if same(what, b"pattern") {
-        return PATTERN;
+    // BYTES to the end of the line.
+    pub fn last(&mut self, line: &mut Line, most: u64) -> Result<&[u8], Stop> {
+        let part = self.read(line, most, "")?;
+        line.end()?;
+        Ok(self.of(part))
     }
-    if_so(what.len() == 2 && all(what, HEX), REPEATED)
-}
 
-fn if_so(fits: bool, form: u8) -> u8 {
-    if fits {
-        return form;
+    // LIST up to the word that must follow.
+    pub fn list(&mut self, line: &mut Line, next: &str) -> Result<Part, Stop> {
+        self.words(line, Words::Numbers, next)
     }
-    UNFIT
-}
 
-fn is_quoted(word: &[u8]) -> bool {
-    if word.len() < 2 {
-        return false;
+    fn words(&mut self, line: &mut Line, words: Words, next: &str) -> Result<Part, Stop> {
+        let from = self.used();
+        // a count, as the words of a line are no slice to go over; there are fewer of them than characters
+        for _ in 0..LONGEST {
+            let word = line.next();
+            if word.bytes.is_empty() || word.is(next) {
+                break;
+            }
+            let so_far = self.used().saturating_sub(from) as u64;
+            let added = self.add_word(words, word.bytes, so_far);
+            if let Err(misfit) = added {
+                return Err(word.unfit(words.expected(misfit)));
+            }
+            line.take(word);
+        }
+        let to = self.used();
+        Ok(Part { from, to })
     }
-    let last = word.len() - 1;
-    word[last] == b'\'' && (last == 1 || all(between(word, 1, last), PRINTABLE))
-}
 
-// How many bytes a word of this form adds, of at most so many; none where it does not fit.
-fn count_of(word: &[u8], form: u8, most: u64) -> Decimal {
-    match form {
-        NEXT => judged(0, LEFT),
-        UNFIT => judged(0, NO_NUMBER),
-        QUOTED => bounded(wrapping_sub_u64(word.len() as u64, 2), most),
-        PAIRS => bounded((word.len() / 2) as u64, most),
-        NUMBERS => numbers_of(times_of(word, most / 4)),
-        _ => times_of(word, most),
+    // Adds what a word says behind so many bytes.
+    fn add_word(&mut self, words: Words, word: &[u8], so_far: u64) -> Result<(), Misfit> {
+        match words {
+            Words::Bytes(most) => self.add(word, most.saturating_sub(so_far)),
+            Words::Numbers => {
+                self.add_number(word, (MOST_LISTED as u64).saturating_sub(so_far / 4))
+            }
+        }
+    }
+
+    fn add(&mut self, word: &[u8], left: u64) -> Result<(), Misfit> {
+        if word.starts_with(b"'") {
+            return self.add_quoted(word, left);
+        }
+        match at_star(word) {
+            (what, Some(times)) => self.add_repeated(what, times, left),
+            (hex, None) => self.add_pairs(hex, left),
+        }
+    }
+
+    fn add_quoted(&mut self, word: &[u8], left: u64) -> Result<(), Misfit> {
+        let inner = quoted(word).ok_or(Misfit::Form)?;
+        within(inner.len() as u64, left)?;
+        self.extend(inner.iter().copied());
+        Ok(())
+    }
+
+    fn add_pairs(&mut self, hex: &[u8], left: u64) -> Result<(), Misfit> {
+        if hex.len() % 2 != 0 || !is_hex(hex) {
+            return Err(Misfit::Form);
+        }
+        within(hex.len() as u64 / 2, left)?;
+        self.extend(hex.chunks(2).map(byte_of));
+        Ok(())
+    }
+
+    // The pattern's length is a prime, so that it meets no power of two.
+    fn add_repeated(&mut self, what: &[u8], times: &[u8], left: u64) -> Result<(), Misfit> {
+        if what == b"pattern".as_slice() {
+            let times = decimal(times, left)?;
+            self.extend((0..times).map(|i| (i % 251) as u8));
+        } else if what.len() == 2 && is_hex(what) {
+            let times = decimal(times, left)?;
+            self.extend(iter::repeat_n(byte_of(what), times as usize));
+        } else {
+            return Err(Misfit::Form);
+        }
+        Ok(())
+    }
+
+    fn add_number(&mut self, word: &[u8], left: u64) -> Result<(), Misfit> {
+        let (what, times) = at_star(word);
+        let number = decimal(what, FOUR).map_err(|_| Misfit::Form)? as u32;
+        let times = match times {
+            Some(times) => decimal(times, left)?,
+            None => within(1, left)?,
+        };
+        for _ in 0..times {
+            self.extend(number.to_be_bytes().into_iter());
+        }
+        Ok(())
     }
 }
 
-// What stands behind the star; without one it is once.
-fn times_of(word: &[u8], most: u64) -> Decimal {
-    let star = place_of(word, 0, b'*');
-    if star < word.len() {
-        return decimal_of(between(word, star + 1, word.len()), most);
-    }
-    bounded(1, most)
-}
-
-fn numbers_of(times: Decimal) -> Decimal {
-    judged(times.value % 0x1_0000 * 4, times.verdict)
-}
-
-// ---- into the buffer, from a place on: the next place
-
-fn fill(word: &[u8], form: u8, times: usize, from: usize, into: &mut [u8]) -> usize {
-    let mut place = from;
-    let mut i = 0;
-    while i < times {
-        place = push(made(word, form, i), place, into);
-        i += 1;
-    }
-    place
-}
-
-pub fn push(byte: u8, place: usize, into: &mut [u8]) -> usize {
-    if place < into.len() {
-        into[place] = byte;
-        return place + 1;
-    }
-    place
-}
-
-// Byte i of what a word of this form says. The pattern's length is a prime, so that it meets no power of two.
-fn made(word: &[u8], form: u8, i: usize) -> u8 {
-    match form {
-        NUMBERS => byte_of(number_of(word).value, i % 4),
-        QUOTED => byte_at(word, i % LONGEST + 1),
-        PAIRS => pair(word, i % LONGEST * 2),
-        REPEATED => pair(word, 0),
-        PATTERN => (i % 251) as u8,
-        _ => 0,
+// What stands before the first star of a word, and what stands behind it.
+fn at_star(word: &[u8]) -> (&[u8], Option<&[u8]>) {
+    match word.iter().position(|byte| *byte == b'*') {
+        Some(star) => (&word[..star], Some(&word[star + 1..])),
+        None => (word, None),
     }
 }
 
-// A byte of a number of four, the highest first.
-fn byte_of(n: u64, i: usize) -> u8 {
-    match i {
-        0 => (n / 0x100_0000 % 256) as u8,
-        1 => (n / 0x1_0000 % 256) as u8,
-        2 => (n / 0x100 % 256) as u8,
-        _ => (n % 256) as u8,
+fn within(n: u64, most: u64) -> Result<u64, Misfit> {
+    if most < n {
+        return Err(Misfit::Size);
     }
+    Ok(n)
 }
 
-// The byte of the two hex digits at a place.
-fn pair(word: &[u8], place: usize) -> u8 {
-    hex_value(byte_at(word, place)) % 16 * 16 + hex_value(byte_at(word, place % LONGEST + 1)) % 16
+// The characters between two quotes.
+fn quoted(word: &[u8]) -> Option<&[u8]> {
+    let inner = word.strip_prefix(b"'")?.strip_suffix(b"'")?;
+    let fits = inner
+        .iter()
+        .all(|byte| byte.is_ascii_graphic() && *byte != b'\'');
+    fits.then_some(inner)
 }
 
-// A letter's last four bits are 1 to 6.
-fn hex_value(byte: u8) -> u8 {
-    if byte <= b'9' {
-        return byte % 16;
-    }
-    byte % 16 + 9
+fn is_hex(word: &[u8]) -> bool {
+    word.iter().all(|byte| byte.is_ascii_hexdigit())
+}
+
+// The byte of two hex digits.
+fn byte_of(pair: &[u8]) -> u8 {
+    pair.iter().fold(0, |byte: u8, digit| {
+        let value = char::from(*digit).to_digit(16).unwrap_or(0);
+        byte.wrapping_mul(16).wrapping_add((value % 16) as u8)
+    })
 }

@@ -1,146 +1,144 @@
 // The byte editor at work, and bits that flip: a message of the file is changed and changed back, and the file is checked in between.
 // Rests on the crate `exports`.
-use crate::golden_lines::step;
-use crate::numbers::{USED, at, place_at, put_four};
-use crate::printing::say;
-use crate::reader::MEMORY;
-use crate::words::{between, byte_at};
+use crate::file_lines::MOST_MESSAGE;
+use crate::golden_lines::Step;
+use crate::line::{EIGHT, Line};
+use crate::stop::Stop;
+use crate::telling::Answer;
+use crate::world::File;
 use exports::goldens::morlewen_check;
-use std::io;
 use std::io::Write;
-use std::num::{wrapping_add_u64, wrapping_add_usize};
 
-// The rows of the table that change the file.
-const EDITS: u8 = b'0';
-
-const FLIPS: u8 = b'1';
-
-// The most bytes of a record's message.
-const MOST_MESSAGE: usize = 510;
-
-// Where a message has its flags.
+// Where a message has its flags, and their bits that declare the kind.
 const FLAGS: usize = 4;
 
-// More than a message has bits.
-const BITS: usize = 4_096;
+const KIND: u8 = 0x18;
 
-// Tries each change of a series, and counts those made, and those after which check refuses the file.
-pub fn series_line(
-    out: &mut impl Write,
-    code: u8,
-    template: &[u8],
-    numbers: &mut [u64; 16],
-    memory: &mut [u8; MEMORY],
-) -> io::Result<()> {
-    let used = place_at(numbers, USED);
-    let word = step(between(memory, 0, used), place_at(numbers, 0), numbers);
-    let place = place_at(numbers, 0);
-    put_four(numbers, 0, 0, used as u64, 0);
-    try_all(
-        code,
-        place,
-        tries_of(code, word / 0x1_0000_0000),
-        memory,
-        numbers,
-    );
-    say(out, template, word, numbers, template, template)
-}
+// The pairs of masks that the byte editor tries at each place and the one behind it.
+const EDITS: [(u8, u8); 6] = [
+    (0x01, 0x00),
+    (0x00, 0x80),
+    (0xFF, 0xFF),
+    (0x55, 0xAA),
+    (0x10, 0x01),
+    (0x80, 0x01),
+];
 
-fn tries_of(code: u8, size: u64) -> usize {
-    let bytes = (size % 511) as usize;
-    match code {
-        EDITS => 6 * bytes,
-        FLIPS => 8 * bytes,
-        _ => BITS * 8 * bytes,
-    }
-}
-
-fn try_all(
-    code: u8,
+// A byte of the message, and the mask that is added to it by exclusive or.
+#[derive(Clone, Copy)]
+struct Touch {
     place: usize,
-    tries: usize,
-    memory: &mut [u8; MEMORY],
-    numbers: &mut [u64; 16],
-) {
-    let mut n = 0;
-    while n < tries {
-        tried(first(code, n), second(code, n), place, memory, numbers);
-        n += 1;
+    mask: u8,
+}
+
+impl Touch {
+    fn bit(n: usize) -> Touch {
+        Touch {
+            place: n / 8,
+            mask: 1 << (n % 8),
+        }
+    }
+
+    // Past the record, or a change of the bits that declare the kind, which makes another message.
+    fn is_left_out(self) -> bool {
+        MOST_MESSAGE <= self.place || (self.place == FLAGS && self.mask & KIND != 0)
     }
 }
 
-// ---- a change is two touches: each has the place of a byte, times 256, and a mask that is added to it by exclusive or
-
-fn touch(place: usize, mask: u8) -> usize {
-    place % 1_024 * 256 + mask as usize
+// The changes tried on a message of the file: those made, and those after which check refuses the file.
+#[derive(Drop)]
+struct Trial<'a> {
+    file: &'a mut File,
+    message: usize,
+    made: u64,
+    refused: u64,
 }
 
-fn bit(n: usize) -> usize {
-    touch(n / 8, 1 << (n % 8))
-}
-
-fn first(code: u8, n: usize) -> usize {
-    match code {
-        EDITS => touch(n / 6, byte_at(b"\x01\x00\xff\x55\x10\x80", n % 6)),
-        FLIPS => bit(n),
-        _ => bit(n / BITS),
+impl Trial<'_> {
+    // A change is one or two touches.
+    fn change(&mut self, touches: &[Touch]) {
+        if touches.iter().any(|touch| touch.is_left_out()) {
+            return;
+        }
+        self.touch(touches);
+        if Answer(morlewen_check(self.file.bytes())).outcome().is_err() {
+            self.refused = self.refused.saturating_add(1);
+        }
+        self.touch(touches);
+        self.made = self.made.saturating_add(1);
     }
-}
 
-// A bit is paired with those before it; other pairs lie past the record.
-fn second(code: u8, n: usize) -> usize {
-    match code {
-        EDITS => touch(n / 6 + 1, byte_at(b"\x00\x80\xff\xaa\x01\x01", n % 6)),
-        FLIPS => 0,
-        _ => {
-            if n / BITS <= n % BITS {
-                return touch(MOST_MESSAGE, 0);
-            }
-            bit(n % BITS)
+    fn touch(&mut self, touches: &[Touch]) {
+        for touch in touches {
+            self.file
+                .touch(self.message.saturating_add(touch.place), touch.mask);
+        }
+    }
+
+    fn edit(&mut self, place: usize) {
+        for (first, second) in EDITS {
+            let first = Touch { place, mask: first };
+            let second = Touch {
+                place: place.saturating_add(1),
+                mask: second,
+            };
+            self.change(&[first, second]);
+        }
+    }
+
+    fn edit_each(&mut self, size: usize) {
+        for place in 0..size {
+            self.edit(place);
+        }
+    }
+
+    fn flip_each(&mut self, bits: usize) {
+        for n in 0..bits {
+            self.change(&[Touch::bit(n)]);
+        }
+    }
+
+    // The bit with each of those before it.
+    fn flip_pairs(&mut self, n: usize) {
+        for before in 0..n {
+            self.change(&[Touch::bit(n), Touch::bit(before)]);
+        }
+    }
+
+    fn flip_each_pair(&mut self, bits: usize) {
+        for n in 0..bits {
+            self.flip_pairs(n);
         }
     }
 }
 
-fn tried(
-    first: usize,
-    second: usize,
-    place: usize,
-    memory: &mut [u8; MEMORY],
-    numbers: &mut [u64; 16],
-) {
-    if left_out(first) || left_out(second) {
-        return;
+pub fn series_line(
+    out: &mut impl Write,
+    name: &str,
+    mut line: Line,
+    file: &mut File,
+) -> Result<(), Stop> {
+    let record = line.field("record", EIGHT)? as usize;
+    line.answer(out)?;
+    let Some(part) = Step::at(file.bytes(), record).message() else {
+        write!(out, " no message")?;
+        return Ok(());
+    };
+    let [message, size] = part;
+    let size = (size as usize).min(MOST_MESSAGE);
+    let mut trial = Trial {
+        file,
+        message: message as usize,
+        made: 0,
+        refused: 0,
+    };
+    match name {
+        "edits" => trial.edit_each(size),
+        "flips" => trial.flip_each(8 * size),
+        _ => trial.flip_each_pair(8 * size),
     }
-    make(first, second, place, memory);
-    let used = at(numbers, 2);
-    let word = morlewen_check(between(memory, 0, used as usize));
-    make(first, second, place, memory);
-    let made = wrapping_add_u64(at(numbers, 0), 1);
-    let refused = wrapping_add_u64(at(numbers, 1), (word % 256 > 0) as u64);
-    put_four(numbers, made, refused, used, 0);
-}
-
-// Past the record, or a change of the bits that declare the kind, which makes another message.
-fn left_out(touch: usize) -> bool {
-    let place = touch / 256;
-    MOST_MESSAGE <= place || (place == FLAGS && touch / 8 % 4 != 0)
-}
-
-fn make(first: usize, second: usize, place: usize, memory: &mut [u8; MEMORY]) {
-    add(
-        wrapping_add_usize(place, first / 256),
-        (first % 256) as u8,
-        memory,
-    );
-    add(
-        wrapping_add_usize(place, second / 256),
-        (second % 256) as u8,
-        memory,
-    );
-}
-
-fn add(place: usize, mask: u8, memory: &mut [u8; MEMORY]) {
-    if place < MEMORY {
-        memory[place] = memory[place] ^ mask;
-    }
+    let (made, refused) = (trial.made, trial.refused);
+    let done = if name == "edits" { "edited" } else { "flipped" };
+    write!(out, " {done} {made} refused {refused}")?;
+    Ok(())
 }

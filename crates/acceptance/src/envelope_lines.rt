@@ -1,261 +1,169 @@
-// The commands about sums, messages, the judge, frames, QoS, lateness and sequence, and those that lend a buffer: each is one call of the library, and its answer is told by the row's template.
+// The commands about sums, messages, the judge, frames that are read, QoS, lateness and sequence: each is one call of the library.
 // Rests on the crate `exports`.
-use crate::frame_lines::{measured, unwrap_line};
-use crate::numbers::{
-    BEGUN, CHOICE, END, LENT, USED, at, four_at, one_at, place_at, put, put_four, two_at,
-};
-use crate::printing::say;
-use crate::reader::{FILE_ROOM, MEMORY};
-use crate::words::between;
-use exports::envelopes::{morlewen_read, morlewen_rewrite, morlewen_write};
-use exports::frames::{morlewen_acknowledge, morlewen_wrap};
-use exports::goldens::{morlewen_make, morlewen_retire};
-use exports::qos::{morlewen_qos_join, morlewen_qos_split};
+use crate::byte_words::{Bytes, MOST};
+use crate::line::{EIGHT, FOUR, Line, ONE, TWO};
+use crate::stop::Stop;
+use crate::telling::{Accepted, Answer, Unread};
+use console::table::between;
+use exports::envelopes::{FIELDS, morlewen_read};
+use exports::frames::{COMMIDS, morlewen_frame_first, morlewen_unwrap};
+use exports::qos::{QOS_PARTS, morlewen_qos_join, morlewen_qos_split};
 use exports::sums::morlewen_crc;
 use exports::timing::{morlewen_lateness_from_entry, morlewen_sequence};
 use exports::verdicts::{RULES, morlewen_judge_places};
-use std::io;
 use std::io::Write;
 
-// What a lent buffer holds in every byte before a call.
-const BLANK: u8 = 0xEE;
-
-// The largest room of a lent buffer.
-const ROOM: usize = 1_024;
+// Where the message of a frame begins.
+const BODY: usize = 12;
 
 pub fn envelope_line(
     out: &mut impl Write,
-    code: u8,
-    template: &[u8],
-    numbers: &mut [u64; 16],
-    memory: &[u8; MEMORY],
-) -> io::Result<()> {
-    let message = between(memory, place_at(numbers, BEGUN), place_at(numbers, END));
-    match code {
-        b'h' => unwrap_line(out, template, numbers, message),
-        _ => {
-            let word = envelope_answer(code, message, numbers);
-            say(out, template, word, numbers, message, message)
+    name: &str,
+    line: Line,
+    bytes: &mut Bytes,
+) -> Result<(), Stop> {
+    match name {
+        "sum" => sum(out, line, bytes),
+        "read" => read(out, line, bytes),
+        "judge" => judge(out, line, bytes),
+        "unwrap" => unwrap(out, line, bytes),
+        "first" => first(out, line, bytes),
+        "qos" => qos(out, line),
+        "late" => late(out, line),
+        _ => sequence(out, line),
+    }
+}
+
+fn sum(out: &mut impl Write, mut line: Line, bytes: &mut Bytes) -> Result<(), Stop> {
+    let message = bytes.last(&mut line, MOST)?;
+    line.answer(out)?;
+    write!(out, " {} {:08x}", message.len(), morlewen_crc(message))?;
+    Ok(())
+}
+
+fn read(out: &mut impl Write, mut line: Line, bytes: &mut Bytes) -> Result<(), Stop> {
+    let message = bytes.last(&mut line, MOST)?;
+    line.answer(out)?;
+    let mut fields = [0; FIELDS];
+    match Answer(morlewen_read(message, &mut fields)).outcome() {
+        Ok(_) => write!(out, "{}", Accepted { fields, message })?,
+        Err(refused) => write!(out, " refused{}", Unread(refused))?,
+    }
+    Ok(())
+}
+
+// Of each of the rules whether it is kept, and the lowest number of those that are broken.
+fn judge(out: &mut impl Write, mut line: Line, bytes: &mut Bytes) -> Result<(), Stop> {
+    let message = bytes.last(&mut line, MOST)?;
+    line.answer(out)?;
+    let mut verdicts = [0; RULES];
+    let mut places = [0; RULES];
+    let answer = Answer(morlewen_judge_places(message, &mut verdicts, &mut places));
+    for (rule, (verdict, place)) in (1..).zip(verdicts.iter().zip(&places)) {
+        match *verdict {
+            0 => write!(out, " {rule} kept")?,
+            1 => write!(out, " {rule} broken at {place}")?,
+            _ => write!(out, " {rule} not judged")?,
         }
     }
-}
-
-fn envelope_answer(code: u8, message: &[u8], numbers: &mut [u64; 16]) -> u64 {
-    match code {
-        b'a' => summed(message, numbers),
-        b'b' => read(message, numbers),
-        b'c' => qos(numbers),
-        b'd' => late(numbers),
-        b'g' => judged(message, numbers),
-        b'i' => measured(message, numbers),
-        _ => morlewen_sequence(four_at(numbers, 0), four_at(numbers, 1)),
+    match answer.reading() {
+        0 => write!(out, " none broken")?,
+        lowest => write!(out, " lowest {lowest} {}", answer.value())?,
     }
+    Ok(())
 }
 
-// The commands that write into a lent buffer.
-pub fn lent_line(
-    out: &mut impl Write,
-    code: u8,
-    template: &[u8],
-    numbers: &[u64; 16],
-    memory: &[u8; MEMORY],
-) -> io::Result<()> {
-    let mut blank = [BLANK; ROOM];
-    let room = place_at(numbers, LENT);
-    let word = lent_answer(code, numbers, memory, front(&mut blank, room));
-    say(
+// What the frame is, and behind it the message that it carries.
+fn unwrap(out: &mut impl Write, mut line: Line, bytes: &mut Bytes) -> Result<(), Stop> {
+    let frame = bytes.last(&mut line, MOST)?;
+    line.answer(out)?;
+    let mut commids = [0; COMMIDS];
+    let mut fields = [0; FIELDS];
+    let answer = Answer(morlewen_unwrap(frame, &mut commids, &mut fields));
+    let [commid, acknowledged] = commids;
+    match answer.outcome() {
+        Ok(size) if answer.count() == 1 => {
+            let message = between(frame, BODY, frame.len());
+            write!(out, " data commid {commid} size {size}")?;
+            write!(out, "{}", Accepted { fields, message })?;
+        }
+        Ok(_) => write!(out, " acknowledgment commid {commid} of {acknowledged}")?,
+        Err(refused) => write!(out, "{refused}")?,
+    }
+    Ok(())
+}
+
+fn first(out: &mut impl Write, mut line: Line, bytes: &mut Bytes) -> Result<(), Stop> {
+    let capture = bytes.last(&mut line, MOST)?;
+    line.answer(out)?;
+    write!(
         out,
-        template,
-        word,
-        numbers,
-        template,
-        between(&blank, 0, room),
-    )
+        " {} of {}",
+        morlewen_frame_first(capture),
+        capture.len()
+    )?;
+    Ok(())
 }
 
-fn lent_answer(code: u8, numbers: &[u64; 16], memory: &[u8; MEMORY], lent: &mut [u8]) -> u64 {
-    let message = between(memory, place_at(numbers, BEGUN), place_at(numbers, END));
-    match code {
-        b'T' => morlewen_retire(file_in(numbers, memory), place_at(numbers, 0), lent),
-        b'U' => morlewen_acknowledge(four_at(numbers, 0), four_at(numbers, 1), lent),
-        b'V' => morlewen_wrap(message, four_at(numbers, 0), lent),
-        b'W' => written(numbers, memory, lent),
-        b'X' => morlewen_rewrite(message, lent),
-        _ => morlewen_make(message, lent),
+fn qos(out: &mut impl Write, mut line: Line) -> Result<(), Stop> {
+    if line.takes("join") {
+        return join(out, line);
     }
-}
-
-// The golden file that is worked on.
-fn file_in<'a>(numbers: &[u64; 16], memory: &'a [u8; MEMORY]) -> &'a [u8] {
-    between(memory, 0, place_at(numbers, USED))
-}
-
-// So many bytes at the front of a buffer.
-fn front<'a>(buffer: &'a mut [u8], size: usize) -> &'a mut [u8] {
-    if buffer.len() < size {
-        return &mut buffer[..0];
+    let field = line.field("split", TWO)? as u16;
+    line.answer(out)?;
+    let mut parts = [0; QOS_PARTS];
+    morlewen_qos_split(field, &mut parts);
+    for part in &parts {
+        write!(out, " {part}")?;
     }
-    &mut buffer[..size]
+    Ok(())
 }
 
-fn summed(message: &[u8], numbers: &mut [u64; 16]) -> u64 {
-    put_four(
-        numbers,
-        message.len() as u64,
-        morlewen_crc(message) as u64,
-        0,
-        0,
-    );
-    0
-}
-
-// Of a message that is refused neither addressing nor integrity is told: no template has these kinds.
-fn read(message: &[u8], numbers: &mut [u64; 16]) -> u64 {
-    put(numbers, 5, 9);
-    put(numbers, 14, 9);
-    morlewen_read(message, numbers)
-}
-
-// The verdicts, and behind them the places.
-fn judged(message: &[u8], numbers: &mut [u64; 16]) -> u64 {
-    let mut verdicts = [0u8; RULES];
-    let mut places = [0u64; RULES];
-    let word = morlewen_judge_places(message, &mut verdicts, &mut places);
-    put_verdicts(numbers, &verdicts);
-    put_places(numbers, &places);
-    word
-}
-
-fn put_verdicts(numbers: &mut [u64; 16], verdicts: &[u8; RULES]) {
-    put_four(
-        numbers,
-        verdict(verdicts, 0),
-        verdict(verdicts, 1),
-        verdict(verdicts, 2),
-        verdict(verdicts, 3),
-    );
-    put(numbers, 4, verdict(verdicts, 4));
-    put(numbers, 5, verdict(verdicts, 5));
-    put(numbers, 6, verdict(verdicts, 6));
-}
-
-fn put_places(numbers: &mut [u64; 16], places: &[u64; RULES]) {
-    put(numbers, 7, places[0]);
-    put(numbers, 8, places[1]);
-    put(numbers, 9, places[2]);
-    put(numbers, 10, places[3]);
-    put(numbers, 11, places[4]);
-    put(numbers, 12, places[5]);
-    put(numbers, 13, places[6]);
-}
-
-fn verdict(verdicts: &[u8; RULES], place: usize) -> u64 {
-    wide(verdicts[place % RULES])
-}
-
-#[derive(Clone, Copy)]
-struct Given {
-    message_type: u16,
-    version: u8,
-    flags: u8,
-    number: u32,
-    time: u32,
-    addressed: u8,
-    ttl: u16,
-    qos: u16,
-    integrity: u32,
-}
-
-fn given_by(numbers: &[u64; 16]) -> Given {
-    Given {
-        message_type: two_at(numbers, 0),
-        version: one_at(numbers, 1),
-        flags: one_at(numbers, 2),
-        number: four_at(numbers, 3),
-        time: four_at(numbers, 4),
-        addressed: one_at(numbers, CHOICE),
-        ttl: two_at(numbers, 6),
-        qos: two_at(numbers, 7),
-        integrity: four_at(numbers, 10),
+fn join(out: &mut impl Write, mut line: Line) -> Result<(), Stop> {
+    let mut parts = [0; QOS_PARTS];
+    for part in parts.iter_mut() {
+        *part = line.number(ONE)? as u8;
     }
-}
-
-// The source, the destination and the body stand behind each other.
-fn written(numbers: &[u64; 16], memory: &[u8; MEMORY], lent: &mut [u8]) -> u64 {
-    let source = place_at(numbers, 8);
-    let destination = place_at(numbers, 9);
-    wrote(
-        given_by(numbers),
-        between(memory, FILE_ROOM, source),
-        between(memory, source, destination),
-        between(memory, destination, place_at(numbers, END)),
-        lent,
-    )
-}
-
-fn wrote(given: Given, source: &[u8], destination: &[u8], body: &[u8], lent: &mut [u8]) -> u64 {
-    morlewen_write(
-        given.message_type,
-        given.version,
-        given.flags,
-        given.number,
-        given.time,
-        given.addressed,
-        given.ttl,
-        given.qos,
-        source,
-        destination,
-        body,
-        given.integrity,
-        lent,
-    )
-}
-
-fn qos(numbers: &mut [u64; 16]) -> u64 {
-    match at(numbers, CHOICE) {
-        0 => joined(numbers),
-        _ => split(numbers),
+    line.answer(out)?;
+    let [a, b, c, d, e] = parts;
+    match Answer(morlewen_qos_join(a, b, c, d, e)).outcome() {
+        Ok(field) => write!(out, " {field}")?,
+        Err(refused) => write!(out, " refused {}", refused.number)?,
     }
+    Ok(())
 }
 
-fn joined(numbers: &[u64; 16]) -> u64 {
-    morlewen_qos_join(
-        one_at(numbers, 0),
-        one_at(numbers, 1),
-        one_at(numbers, 2),
-        one_at(numbers, 3),
-        one_at(numbers, 4),
-    )
+fn late(out: &mut impl Write, mut line: Line) -> Result<(), Stop> {
+    let ttl = late_ttl(&mut line)?;
+    let entry = line.field("entry", EIGHT)?;
+    let clock = line.field("clock", EIGHT)?;
+    line.answer(out)?;
+    let addressed = ttl.is_some() as u8;
+    match morlewen_lateness_from_entry(addressed, ttl.unwrap_or(0), entry, clock) {
+        0 => write!(out, " in time")?,
+        1 => write!(out, " late")?,
+        _ => write!(out, " no clock")?,
+    }
+    Ok(())
 }
 
-// The first of the five is told as the value of a word.
-fn split(numbers: &mut [u64; 16]) -> u64 {
-    let mut parts = [0u8; 5];
-    morlewen_qos_split(two_at(numbers, 0), &mut parts);
-    put_four(
-        numbers,
-        part(&parts, 1),
-        part(&parts, 2),
-        part(&parts, 3),
-        part(&parts, 4),
-    );
-    part(&parts, 0) % 8 * 0x1_0000_0000
+fn late_ttl(line: &mut Line) -> Result<Option<u16>, Stop> {
+    if line.takes("unaddressed") {
+        return Ok(None);
+    }
+    Ok(Some(line.field("ttl", TWO)? as u16))
 }
 
-fn part(parts: &[u8; 5], place: usize) -> u64 {
-    wide(parts[place % 5])
-}
-
-fn wide(n: u8) -> u64 {
-    n as u64
-}
-
-fn late(numbers: &[u64; 16]) -> u64 {
-    let kind = morlewen_lateness_from_entry(
-        one_at(numbers, CHOICE),
-        two_at(numbers, 0),
-        at(numbers, 1),
-        at(numbers, 2),
-    );
-    kind as u64 * 0x1_0000
+fn sequence(out: &mut impl Write, mut line: Line) -> Result<(), Stop> {
+    let old = line.field("from", FOUR)? as u32;
+    let new = line.field("to", FOUR)? as u32;
+    line.answer(out)?;
+    let answer = Answer(morlewen_sequence(old, new));
+    match answer.count() {
+        0 => write!(out, " repeat")?,
+        1 => write!(out, " next")?,
+        2 => write!(out, " ahead {}", answer.value())?,
+        _ => write!(out, " behind {}", answer.value())?,
+    }
+    Ok(())
 }

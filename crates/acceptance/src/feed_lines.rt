@@ -1,130 +1,160 @@
 // The commands about the feed that is worked on: each is one call of the library, or calls until a stream is used up.
 // Rests on the crate `exports`.
-use crate::golden_lines::count_of;
-use crate::numbers::{BEGUN, END, place_at, put, put_four};
-use crate::printing::say;
-use crate::reader::MEMORY;
-use crate::words::between;
-use exports::feeds::{NUMBERS, morlewen_feed_end, morlewen_feed_restart, morlewen_feed_take};
+use crate::byte_words::{Bytes, MOST};
+use crate::line::{EIGHT, Line};
+use crate::stop::Stop;
+use crate::telling::{Accepted, Answer, Lent, Unread};
+use crate::world::{Feed, World};
+use console::table::between;
+use exports::envelopes::FIELDS;
+use exports::feeds::{morlewen_feed_end, morlewen_feed_restart, morlewen_feed_take};
 use std::io;
 use std::io::Write;
-use std::num::wrapping_add_usize;
-
-// The bytes that a feed keeps.
-pub const KEPT: usize = 510;
 
 // How a feed stands where a message is whole.
 const WHOLE: u64 = 255;
 
+#[derive(Clone, Copy)]
+enum Standing {
+    Inside,
+    Whole,
+    Refused(u64),
+}
+
+impl From<u64> for Standing {
+    fn from(number: u64) -> Standing {
+        match number {
+            0 => Standing::Inside,
+            WHOLE => Standing::Whole,
+            _ => Standing::Refused(number),
+        }
+    }
+}
+
+impl Feed {
+    fn standing(&self) -> Standing {
+        Standing::from(self.standing[1])
+    }
+
+    fn is_refused(&self) -> bool {
+        matches!(self.standing(), Standing::Refused(_))
+    }
+
+    // What one call finds in a piece, and the numbers that it puts down.
+    fn take(&mut self, piece: &[u8]) -> (Answer, [u64; FIELDS]) {
+        let mut fields = [0; FIELDS];
+        let answer = morlewen_feed_take(&mut self.kept, &mut self.standing, piece, &mut fields);
+        (Answer(answer), fields)
+    }
+
+    fn end(&mut self) -> Answer {
+        Answer(morlewen_feed_end(&mut self.standing))
+    }
+
+    // The bytes kept are told whole, as a lent buffer is.
+    fn tell(&mut self, out: &mut impl Write) -> io::Result<()> {
+        let [count, number] = self.standing;
+        match Standing::from(number) {
+            Standing::Inside => write!(out, " count {count} inside")?,
+            Standing::Whole => write!(out, " count {count} whole")?,
+            Standing::Refused(number) => {
+                write!(
+                    out,
+                    " count {count} refused {number} {}",
+                    self.place_again()
+                )?
+            }
+        }
+        write!(out, " kept{}", Lent(&self.kept))
+    }
+
+    // A refusal that stands is answered again, with its place, and nothing changes.
+    fn place_again(&mut self) -> u64 {
+        match self.end().outcome() {
+            Ok(value) => value,
+            Err(refused) => refused.place,
+        }
+    }
+}
+
 pub fn feed_line(
     out: &mut impl Write,
-    code: u8,
-    template: &[u8],
-    numbers: &mut [u64; 16],
-    memory: &[u8; MEMORY],
-    kept: &mut [u8; KEPT],
-    standing: &mut [u64; NUMBERS],
-) -> io::Result<()> {
-    let bytes = between(memory, place_at(numbers, BEGUN), place_at(numbers, END));
-    let word = feed_answer(out, code, bytes, numbers, kept, standing)?;
-    tell(out, template, word, numbers, kept)?;
-    put_four(numbers, standing[0], standing[1], stands(standing[1]), 0);
-    tell(
-        out,
-        b"count #A ?C0 inside ?C1 whole ?C2 refused #B #v ? kept [ ! ~]",
-        asked_again(standing),
-        numbers,
-        kept,
-    )
+    name: &str,
+    line: Line,
+    world: &mut World,
+) -> Result<(), Stop> {
+    let feed = &mut world.feed;
+    match name {
+        "restart" => {
+            line.answer(out)?;
+            morlewen_feed_restart(&mut feed.kept, &mut feed.standing);
+        }
+        "piece" => piece(out, line, feed, &mut world.bytes)?,
+        "stream" => stream(out, line, feed, &mut world.bytes)?,
+        _ => {
+            line.answer(out)?;
+            tell_end(out, feed.end())?;
+        }
+    }
+    feed.tell(out)?;
+    Ok(())
 }
 
-// The bytes kept are the message that is told of, and they are shown whole as a lent buffer is.
-fn tell(
+fn tell_end(out: &mut impl Write, answer: Answer) -> io::Result<()> {
+    match answer.outcome() {
+        Ok(0) => write!(out, " nothing"),
+        Ok(_) => Ok(()),
+        Err(refused) => write!(out, " refused{}", Unread(refused)),
+    }
+}
+
+fn piece(
     out: &mut impl Write,
-    template: &[u8],
-    word: u64,
-    numbers: &[u64; 16],
-    kept: &[u8],
-) -> io::Result<()> {
-    say(out, template, word, numbers, kept, kept)
-}
-
-// A refusal that stands is answered again, with its place, and nothing changes.
-fn asked_again(standing: &mut [u64; NUMBERS]) -> u64 {
-    if stands(standing[1]) < 2 {
-        return 0;
+    mut line: Line,
+    feed: &mut Feed,
+    bytes: &mut Bytes,
+) -> Result<(), Stop> {
+    let piece = bytes.last(&mut line, MOST)?;
+    line.answer(out)?;
+    let (answer, fields) = feed.take(piece);
+    write!(out, " used {}", answer.count())?;
+    match answer.outcome() {
+        Ok(0) | Err(_) => tell_end(out, answer)?,
+        Ok(size) => {
+            let message = &feed.kept;
+            write!(out, " message {size}{}", Accepted { fields, message })?;
+        }
     }
-    morlewen_feed_end(standing)
+    Ok(())
 }
 
-// 0: inside. 1: whole. 2: refused.
-fn stands(standing: u64) -> u64 {
-    match standing {
-        0 => 0,
-        WHOLE => 1,
-        _ => 2,
-    }
-}
-
-fn feed_answer(
+// Calls with the next bytes, so many or all that are left, until all are used or a refusal stands. Each uses a byte at least, so there
+// are no more calls than bytes.
+fn stream(
     out: &mut impl Write,
-    code: u8,
-    bytes: &[u8],
-    numbers: &mut [u64; 16],
-    kept: &mut [u8; KEPT],
-    standing: &mut [u64; NUMBERS],
-) -> io::Result<u64> {
-    match code {
-        b'*' => Ok(restarted(kept, standing)),
-        b'+' => Ok(taken(bytes, numbers, kept, standing)),
-        b'-' => Ok(morlewen_feed_end(standing)),
-        _ => streamed(out, bytes, numbers, kept, standing),
+    mut line: Line,
+    feed: &mut Feed,
+    bytes: &mut Bytes,
+) -> Result<(), Stop> {
+    let cut = match line.field("cut", EIGHT)? as usize {
+        0 => usize::MAX,
+        cut => cut,
+    };
+    line.word("of")?;
+    let bytes = bytes.last(&mut line, MOST)?;
+    line.answer(out)?;
+    let mut from = 0usize;
+    for _ in 0..bytes.len() {
+        if bytes.len() <= from || feed.is_refused() {
+            break;
+        }
+        let (answer, fields) = feed.take(between(bytes, from, from.saturating_add(cut)));
+        match answer.outcome() {
+            Ok(0) | Err(_) => {}
+            Ok(size) => write!(out, " message {size} {} {},", fields[0], fields[3])?,
+        }
+        from = from.saturating_add(answer.count() as usize);
     }
-}
-
-fn restarted(kept: &mut [u8; KEPT], standing: &mut [u64; NUMBERS]) -> u64 {
-    morlewen_feed_restart(kept, standing);
-    0
-}
-
-// Where no message is found neither addressing nor integrity is told: no template has these kinds.
-fn taken(
-    piece: &[u8],
-    numbers: &mut [u64; 16],
-    kept: &mut [u8; KEPT],
-    standing: &mut [u64; NUMBERS],
-) -> u64 {
-    put(numbers, 5, 9);
-    put(numbers, 14, 9);
-    morlewen_feed_take(kept, standing, piece, numbers)
-}
-
-// Calls with the next bytes until all are used or a refusal stands. Each uses a byte at least, so there are no more calls than bytes.
-fn streamed(
-    out: &mut impl Write,
-    bytes: &[u8],
-    numbers: &mut [u64; 16],
-    kept: &mut [u8; KEPT],
-    standing: &mut [u64; NUMBERS],
-) -> io::Result<u64> {
-    let cut = place_at(numbers, 0);
-    let mut from = 0;
-    let mut calls = bytes.len();
-    while calls > 0 && from < bytes.len() && stands(standing[1]) < 2 {
-        let word = taken(piece_of(bytes, from, cut), numbers, kept, standing);
-        tell(out, b"?k1 message #v #A #D ~,", word, numbers, kept)?;
-        from = wrapping_add_usize(from, count_of(word) as usize);
-        calls -= 1;
-    }
-    put(numbers, 0, from as u64);
-    Ok(0)
-}
-
-// The next bytes, so many or all that are left.
-fn piece_of(bytes: &[u8], from: usize, cut: usize) -> &[u8] {
-    let left = between(bytes, from, bytes.len());
-    if cut == 0 || left.len() <= cut {
-        return left;
-    }
-    between(left, 0, cut)
+    write!(out, " used {from}")?;
+    Ok(())
 }

@@ -1,201 +1,255 @@
 // The commands about the golden file that is worked on: each is one call of the library, or one for each record.
 // Rests on the crate `exports`.
-use crate::numbers::{BEGUN, END, LISTED, USED, at, four_at, place_at, put, put_four, two_at};
-use crate::printing::{kind_of, number, say};
-use crate::reader::{FILE_ROOM, MEMORY};
-use crate::words::{between, byte_at};
+ghost use Rattle.std.specs.Prelude.{◌≤◌};
+
+use crate::byte_words::{MOST, MOST_LISTED};
+use crate::line::{EIGHT, FOUR, Line, TWO};
+use crate::stop::Stop;
+use crate::telling::Answer;
+use crate::world::World;
 use exports::goldens::{
-    morlewen_ascending, morlewen_check, morlewen_compare, morlewen_find, morlewen_find_by_halving,
-    morlewen_line, morlewen_records, morlewen_retired_records, morlewen_step,
+    LINE, PART, morlewen_ascending, morlewen_check, morlewen_compare, morlewen_find,
+    morlewen_find_by_halving, morlewen_line, morlewen_records, morlewen_retired_records,
+    morlewen_step,
 };
-use std::io;
+use std::fmt;
+use std::fmt::Display;
 use std::io::Write;
-use std::num::{wrapping_add_u64, wrapping_add_usize, wrapping_sub_usize};
-
-// Whether there is more to tell, of a walk and of a listing.
-const MORE: usize = 3;
-
-// The most numbers of a list.
-const MOST_LISTED: usize = 600;
 
 pub fn golden_line(
     out: &mut impl Write,
-    code: u8,
-    template: &[u8],
-    numbers: &mut [u64; 16],
-    file: &[u8],
-) -> io::Result<()> {
-    let word = golden_answer(out, code, template, numbers, file)?;
-    say(out, template, word, numbers, file, file)
-}
-
-fn golden_answer(
-    out: &mut impl Write,
-    code: u8,
-    template: &[u8],
-    numbers: &mut [u64; 16],
-    file: &[u8],
-) -> io::Result<u64> {
-    let record = place_at(numbers, 0);
-    match code {
-        b'A' => Ok(morlewen_check(file)),
-        b'B' => Ok(morlewen_find(file, two_at(numbers, 0), four_at(numbers, 1))),
-        b'C' => Ok(step(file, record, numbers)),
-        b'E' => Ok(entry(file, record, numbers)),
-        b'G' => Ok(morlewen_retired_records(file)),
-        b'H' => Ok(morlewen_find_by_halving(file, two_at(numbers, 0), four_at(numbers, 1))),
-        b'I' => Ok(morlewen_ascending(file)),
-        _ => each(out, code, template, file, numbers),
+    name: &str,
+    line: Line,
+    world: &mut World,
+) -> Result<(), Stop> {
+    let file = world.file.bytes();
+    match name {
+        "check" => check(out, line, file),
+        "find" => found(
+            out,
+            line,
+            |message_type, number| morlewen_find(file, message_type, number),
+        ),
+        "halve" => found(out, line, |message_type, number| {
+            morlewen_find_by_halving(file, message_type, number)
+        }),
+        "order" => order(out, line, file),
+        "step" => one_step(out, line, file),
+        "walk" => walk(out, line, file),
+        "compare" => compare(out, line, world),
+        "entry" => one_entry(out, line, file),
+        "retired" => retired(out, line, file),
+        _ => list(out, line, file),
     }
 }
 
-// The message's place and size, the next record, and whether it is another.
-pub fn step(file: &[u8], record: usize, numbers: &mut [u64; 16]) -> u64 {
-    let mut part = [0u64; 2];
-    let word = morlewen_step(file, record, &mut part);
-    let on = count_of(word);
-    put_four(
-        numbers,
-        part[0],
-        part[1],
-        wrapping_add_u64(record as u64, on),
-        on,
-    );
-    word
-}
-
-pub fn count_of(word: u64) -> u64 {
-    word / 0x1_0000 % 0x1_0000
-}
-
-fn entry(file: &[u8], record: usize, numbers: &mut [u64; 16]) -> u64 {
-    let mut line = [0u64; 3];
-    let word = morlewen_line(file, record, &mut line);
-    put_four(numbers, line[0], line[1], line[2], 0);
-    word
-}
-
-// Tells each step of a walk, or each part of a listing, but the last, which it answers.
-fn each(
-    out: &mut impl Write,
-    code: u8,
-    template: &[u8],
-    file: &[u8],
-    numbers: &mut [u64; 16],
-) -> io::Result<u64> {
-    let mut turn = 0;
-    let mut word = one_of(code, file, 0, numbers);
-    while turn < file.len() && at(numbers, MORE) > 0 {
-        say(out, template, word, numbers, file, file)?;
-        turn += 1;
-        word = one_of(code, file, turn, numbers);
-    }
-    Ok(word)
-}
-
-fn one_of(code: u8, file: &[u8], turn: usize, numbers: &mut [u64; 16]) -> u64 {
-    match code {
-        b'D' => step(file, turn, numbers),
-        _ => listed(file, turn, numbers),
-    }
-}
-
-// A listing: first how many records there are, then the entry of each.
-fn listed(file: &[u8], turn: usize, numbers: &mut [u64; 16]) -> u64 {
-    let records = morlewen_records(file);
-    let word = listed_part(records, file, turn, numbers);
-    put(numbers, MORE, ((turn as u64) < count_of(records)) as u64);
-    word
-}
-
-fn listed_part(records: u64, file: &[u8], turn: usize, numbers: &mut [u64; 16]) -> u64 {
-    if turn == 0 {
-        put(numbers, 4, kind_of(records));
-        return records;
-    }
-    let word = entry(file, turn - 1, numbers);
-    put(numbers, 4, kind_of(word) % 4 + 4);
-    put(numbers, 5, (turn - 1) as u64);
-    word
-}
-
-// ---- comparing
-
-pub fn compare_line(
-    out: &mut impl Write,
-    template: &[u8],
-    numbers: &[u64; 16],
-    memory: &[u8; MEMORY],
-) -> io::Result<()> {
-    let mut places = [0u32; MOST_LISTED];
-    let end = place_at(numbers, LISTED);
-    let count = wrapping_sub_usize(end, FILE_ROOM) / 4;
-    unpack(between(memory, FILE_ROOM, end), &mut places);
-    let word = compared(numbers, memory, count, &mut places);
-    say(out, template, word, numbers, template, template)?;
-    tell_places(out, &places, count)
-}
-
-fn compared(
-    numbers: &[u64; 16],
-    memory: &[u8; MEMORY],
-    count: usize,
-    places: &mut [u32; MOST_LISTED],
-) -> u64 {
-    compared_in(
-        between(memory, 0, place_at(numbers, USED)),
-        place_at(numbers, 0),
-        between(memory, place_at(numbers, BEGUN), place_at(numbers, END)),
-        places,
-        count,
-    )
-}
-
-fn compared_in(
-    file: &[u8],
-    record: usize,
-    message: &[u8],
-    places: &mut [u32],
-    count: usize,
-) -> u64 {
-    morlewen_compare(file, record, message, front(places, count))
-}
-
-// So many places at the front of a list.
-fn front<'a>(places: &'a mut [u32], count: usize) -> &'a mut [u32] {
-    if places.len() < count {
-        return &mut places[..0];
-    }
-    &mut places[..count]
-}
-
-// The numbers of a list, from four bytes each.
-fn unpack(bytes: &[u8], places: &mut [u32; MOST_LISTED]) {
-    let mut i = 0;
-    while i < MOST_LISTED {
-        places[i] = four_bytes(bytes, 4 * i);
-        i += 1;
-    }
-}
-
-fn four_bytes(bytes: &[u8], place: usize) -> u32 {
-    two_bytes(bytes, place) % 0x1_0000 * 0x1_0000
-        + two_bytes(bytes, wrapping_add_usize(place, 2)) % 0x1_0000
-}
-
-fn two_bytes(bytes: &[u8], place: usize) -> u32 {
-    byte_at(bytes, place) as u32 * 256 + byte_at(bytes, wrapping_add_usize(place, 1)) as u32
-}
-
-fn tell_places(out: &mut impl Write, places: &[u32; MOST_LISTED], count: usize) -> io::Result<()> {
-    let mut i = 0;
-    while i < MOST_LISTED && i < count {
-        tell_place(out, places[i])?;
-        i += 1;
+fn check(out: &mut impl Write, line: Line, file: &[u8]) -> Result<(), Stop> {
+    line.answer(out)?;
+    let answer = Answer(morlewen_check(file));
+    match answer.outcome() {
+        Ok(_) => write!(out, " records {}", answer.count())?,
+        Err(refused) => write!(out, " record {}{refused}", answer.count())?,
     }
     Ok(())
 }
 
-fn tell_place(out: &mut impl Write, n: u32) -> io::Result<()> {
-    number(out, n as u64)
+// A name is looked for in one of two ways.
+fn found<F: FnOnce(u16, u32) -> u64>(
+    out: &mut impl Write,
+    mut line: Line,
+    find: F,
+) -> Result<(), Stop>
+    requires { F.IsAlwaysCallable find }
+{
+    let message_type = line.field("type", TWO)? as u16;
+    let number = line.field("number", FOUR)? as u32;
+    line.answer(out)?;
+    let answer = Answer(find(message_type, number));
+    match answer.outcome() {
+        Ok(record) => write!(out, " record {record}")?,
+        Err(refused) => write!(out, "{refused}")?,
+    }
+    write!(out, " opened {}", answer.count())?;
+    Ok(())
+}
+
+fn order(out: &mut impl Write, line: Line, file: &[u8]) -> Result<(), Stop> {
+    line.answer(out)?;
+    let answer = Answer(morlewen_ascending(file));
+    match answer.outcome() {
+        Ok(0) => write!(out, " breaks at {}", answer.count())?,
+        Ok(_) => write!(out, " ascending")?,
+        Err(refused) => write!(out, " record {}{refused}", answer.count())?,
+    }
+    Ok(())
+}
+
+fn retired(out: &mut impl Write, line: Line, file: &[u8]) -> Result<(), Stop> {
+    line.answer(out)?;
+    let answer = Answer(morlewen_retired_records(file));
+    match answer.outcome() {
+        Ok(_) => write!(out, " retired {}", answer.count())?,
+        Err(refused) => write!(out, "{refused}")?,
+    }
+    Ok(())
+}
+
+// ---- steps
+
+// What a step at a record answers.
+#[derive(Clone, Copy)]
+pub struct Step {
+    answer: Answer,
+    part: [u64; PART],
+}
+
+impl Step {
+    pub fn at(file: &[u8], record: usize) -> Step {
+        let mut part = [0; PART];
+        let answer = Answer(morlewen_step(file, record, &mut part));
+        Step { answer, part }
+    }
+
+    // The place and the size of the message.
+    pub fn message(&self) -> Option<[u64; PART]> {
+        match self.answer.outcome() {
+            Ok(0) | Err(_) => None,
+            Ok(_) => Some(self.part),
+        }
+    }
+}
+
+impl Display for Step {
+    fn fmt<W: fmt::Write>(&self, f: &mut fmt::Formatter<W>) -> fmt::Result {
+        let [place, size] = self.part;
+        match self.answer.outcome() {
+            Ok(0) => f.write_str(" end"),
+            Ok(_) => write!(f, " message {place} {size}{}", Mark(self.answer)),
+            Err(refused) => write!(f, "{refused}"),
+        }
+    }
+}
+
+// What is told of a retired record.
+#[derive(Clone, Copy)]
+struct Mark(Answer);
+
+impl Display for Mark {
+    fn fmt<W: fmt::Write>(&self, f: &mut fmt::Formatter<W>) -> fmt::Result {
+        f.write_str(if self.0.reading() == 1 {
+            " retired"
+        } else {
+            ""
+        })
+    }
+}
+
+fn one_step(out: &mut impl Write, mut line: Line, file: &[u8]) -> Result<(), Stop> {
+    let record = line.field("at", EIGHT)?;
+    line.answer(out)?;
+    let step = Step::at(file, record as usize);
+    write!(
+        out,
+        "{step} next {}",
+        record.wrapping_add(step.answer.count())
+    )?;
+    Ok(())
+}
+
+// A walk ends with the step that does not move on.
+fn walk(out: &mut impl Write, line: Line, file: &[u8]) -> Result<(), Stop> {
+    line.answer(out)?;
+    for record in 0..=file.len() {
+        let step = Step::at(file, record);
+        write!(out, "{step}")?;
+        if step.answer.count() == 0 {
+            break;
+        }
+        write!(out, ",")?;
+    }
+    Ok(())
+}
+
+// ---- entries
+
+// What the listing has of a record.
+#[derive(Clone, Copy)]
+struct Entry {
+    answer: Answer,
+    line: [u64; LINE],
+}
+
+impl Entry {
+    fn at(file: &[u8], record: usize) -> Entry {
+        let mut line = [0; LINE];
+        let answer = Answer(morlewen_line(file, record, &mut line));
+        Entry { answer, line }
+    }
+}
+
+impl Display for Entry {
+    fn fmt<W: fmt::Write>(&self, f: &mut fmt::Formatter<W>) -> fmt::Result {
+        let [message_type, number, size] = self.line;
+        match self.answer.outcome() {
+            Ok(_) => write!(f, " {message_type} {number} {size}{}", Mark(self.answer)),
+            Err(refused) => write!(f, "{refused}"),
+        }
+    }
+}
+
+fn one_entry(out: &mut impl Write, mut line: Line, file: &[u8]) -> Result<(), Stop> {
+    let record = line.field("at", EIGHT)? as usize;
+    line.answer(out)?;
+    write!(out, "{}", Entry::at(file, record))?;
+    Ok(())
+}
+
+// How many records there are, and behind it the entry of each.
+fn list(out: &mut impl Write, line: Line, file: &[u8]) -> Result<(), Stop> {
+    line.answer(out)?;
+    let answer = Answer(morlewen_records(file));
+    match answer.outcome() {
+        Ok(_) => write!(out, " records {}", answer.count())?,
+        Err(refused) => write!(out, "{refused}")?,
+    }
+    for record in 0..answer.count() as usize {
+        write!(out, "; {record}{}", Entry::at(file, record))?;
+    }
+    Ok(())
+}
+
+// ---- comparing
+
+// The places that differ go over the numbers of the list, as far as there are any.
+fn compare(out: &mut impl Write, mut line: Line, world: &mut World) -> Result<(), Stop> {
+    let record = line.field("record", EIGHT)? as usize;
+    line.word("list")?;
+    let list = world.bytes.list(&mut line, "with")?;
+    line.word("with")?;
+    let message = world.bytes.read(&mut line, MOST, "")?;
+    line.answer(out)?;
+    let mut places = [0; MOST_LISTED];
+    let count = numbers_in(world.bytes.of(list), &mut places);
+    let listed = &mut places[..count];
+    let message = world.bytes.of(message);
+    match Answer(morlewen_compare(world.file.bytes(), record, message, listed)).outcome() {
+        Ok(0) => write!(out, " same list")?,
+        Ok(count) => write!(out, " different {count} list")?,
+        Err(refused) => write!(out, "{refused} list")?,
+    }
+    for place in listed.iter() {
+        write!(out, " {place}")?;
+    }
+    Ok(())
+}
+
+// The numbers that bytes make, four each: how many.
+fn numbers_in(bytes: &[u8], places: &mut [u32; MOST_LISTED]) -> usize
+    ensures { result ≤ MOST_LISTED }
+{
+    let (numbers, _) = bytes.as_chunks();
+    for (place, number) in places.iter_mut().zip(numbers) {
+        *place = u32::from_be_bytes(*number);
+    }
+    numbers.len().min(MOST_LISTED)
 }

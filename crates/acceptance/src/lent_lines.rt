@@ -1,0 +1,214 @@
+// The commands that lend a buffer: each is one call of the library that writes there, and the buffer is told whole.
+// Rests on the crate `exports`.
+ghost use Rattle.std.specs.Prelude.{◌≤◌, IfOk};
+
+use crate::byte_words::{Bytes, MOST, Part};
+use crate::line::{EIGHT, FOUR, Line, ONE, TWO};
+use crate::stop::Stop;
+use crate::telling::{Answer, Lent, Unread};
+use crate::world::{File, World};
+use exports::envelopes::{morlewen_rewrite, morlewen_write};
+use exports::frames::{morlewen_acknowledge, morlewen_wrap};
+use exports::goldens::{morlewen_make, morlewen_retire};
+use std::io::Write;
+
+// What a lent buffer holds in every byte before a call.
+const BLANK: u8 = 0xEE;
+
+// The largest room of a lent buffer.
+const ROOM: usize = 1_024;
+
+// The most bytes of each part of a message that is written.
+const MOST_PART: u64 = 600;
+
+// The last number of a refusal by reading.
+const LAST_READING: u64 = 7;
+
+pub fn lent_line(
+    out: &mut impl Write,
+    name: &str,
+    line: Line,
+    world: &mut World,
+) -> Result<(), Stop> {
+    match name {
+        "wrap" => wrap(out, line, &mut world.bytes),
+        "acknowledge" => acknowledge(out, line),
+        "write" => write(out, line, &mut world.bytes),
+        "rewrite" => rewrite(out, line, &mut world.bytes),
+        "make" => make(out, line, &mut world.bytes),
+        _ => retire(out, line, &world.file),
+    }
+}
+
+fn room(line: &mut Line) -> Result<usize, Stop>
+    ensures { IfOk result (λ n. n ≤ ROOM) }
+{
+    Ok(line.field("room", ROOM as u64)? as usize)
+}
+
+fn wrap(out: &mut impl Write, mut line: Line, bytes: &mut Bytes) -> Result<(), Stop> {
+    let commid = line.field("commid", FOUR)? as u32;
+    let room = room(&mut line)?;
+    line.word("of")?;
+    let message = bytes.last(&mut line, MOST)?;
+    line.answer(out)?;
+    let mut buffer = [BLANK; ROOM];
+    let lent = &mut buffer[..room];
+    framed(out, Answer(morlewen_wrap(message, commid, lent)), lent)
+}
+
+fn acknowledge(out: &mut impl Write, mut line: Line) -> Result<(), Stop> {
+    let commid = line.field("commid", FOUR)? as u32;
+    let acknowledged = line.field("of", FOUR)? as u32;
+    let room = room(&mut line)?;
+    line.answer(out)?;
+    let mut buffer = [BLANK; ROOM];
+    let lent = &mut buffer[..room];
+    framed(
+        out,
+        Answer(morlewen_acknowledge(commid, acknowledged, lent)),
+        lent,
+    )
+}
+
+fn framed(out: &mut impl Write, answer: Answer, lent: &[u8]) -> Result<(), Stop> {
+    match answer.outcome() {
+        Ok(size) => write!(out, " wrote {size}{}", Lent(lent))?,
+        Err(refused) => write!(out, "{refused}{}", Lent(lent))?,
+    }
+    Ok(())
+}
+
+fn rewrite(out: &mut impl Write, mut line: Line, bytes: &mut Bytes) -> Result<(), Stop> {
+    let room = room(&mut line)?;
+    line.word("of")?;
+    let message = bytes.last(&mut line, MOST)?;
+    line.answer(out)?;
+    let mut buffer = [BLANK; ROOM];
+    let lent = &mut buffer[..room];
+    written(out, Answer(morlewen_rewrite(message, lent)), lent)
+}
+
+fn written(out: &mut impl Write, answer: Answer, lent: &[u8]) -> Result<(), Stop> {
+    match answer.outcome() {
+        Ok(size) => write!(out, " wrote {size}")?,
+        Err(refused) if refused.number <= LAST_READING => write!(
+            out,
+            " unread{}",
+            Unread(refused)
+        )?,
+        Err(refused) => write!(out, " refused {}", refused.number)?,
+    }
+    write!(out, "{}", Lent(lent))?;
+    Ok(())
+}
+
+fn make(out: &mut impl Write, mut line: Line, bytes: &mut Bytes) -> Result<(), Stop> {
+    let room = room(&mut line)?;
+    line.word("of")?;
+    let message = bytes.last(&mut line, MOST)?;
+    line.answer(out)?;
+    let mut buffer = [BLANK; ROOM];
+    let lent = &mut buffer[..room];
+    match Answer(morlewen_make(message, lent)).outcome() {
+        Ok(_) => write!(out, " made{}", Lent(lent))?,
+        Err(refused) => write!(out, "{refused}{}", Lent(lent))?,
+    }
+    Ok(())
+}
+
+fn retire(out: &mut impl Write, mut line: Line, file: &File) -> Result<(), Stop> {
+    let record = line.field("record", EIGHT)? as usize;
+    let room = room(&mut line)?;
+    line.answer(out)?;
+    let mut buffer = [BLANK; ROOM];
+    let lent = &mut buffer[..room];
+    match Answer(morlewen_retire(file.bytes(), record, lent)).outcome() {
+        Ok(_) => write!(out, " done{}", Lent(lent))?,
+        Err(refused) => write!(out, "{refused}{}", Lent(lent))?,
+    }
+    Ok(())
+}
+
+// What a message is written from.
+#[derive(Clone, Copy)]
+struct Given {
+    message_type: u16,
+    version: u8,
+    flags: u8,
+    number: u32,
+    time: u32,
+    routing: Option<Routing>,
+    source: Part,
+    destination: Part,
+    body: Part,
+    integrity: u32,
+}
+
+#[derive(Clone, Copy)]
+struct Routing {
+    ttl: u16,
+    qos: u16,
+}
+
+impl Given {
+    fn read(line: &mut Line, bytes: &mut Bytes) -> Result<Given, Stop> {
+        Ok(Given {
+            message_type: line.field("type", TWO)? as u16,
+            version: line.field("version", ONE)? as u8,
+            flags: line.field("flags", ONE)? as u8,
+            number: line.field("number", FOUR)? as u32,
+            time: line.field("time", FOUR)? as u32,
+            routing: Routing::read(line)?,
+            source: part(line, bytes, "source", "destination")?,
+            destination: part(line, bytes, "destination", "body")?,
+            body: part(line, bytes, "body", "integrity")?,
+            integrity: line.field("integrity", FOUR)? as u32,
+        })
+    }
+
+    fn write(&self, bytes: &Bytes, lent: &mut [u8]) -> Answer {
+        let routing = self.routing.unwrap_or(Routing { ttl: 0, qos: 0 });
+        Answer(morlewen_write(
+            self.message_type,
+            self.version,
+            self.flags,
+            self.number,
+            self.time,
+            u8::from(self.routing.is_some()),
+            routing.ttl,
+            routing.qos,
+            bytes.of(self.source),
+            bytes.of(self.destination),
+            bytes.of(self.body),
+            self.integrity,
+            lent,
+        ))
+    }
+}
+
+impl Routing {
+    fn read(line: &mut Line) -> Result<Option<Routing>, Stop> {
+        if line.takes("unaddressed") {
+            return Ok(None);
+        }
+        Ok(Some(Routing {
+            ttl: line.field("ttl", TWO)? as u16,
+            qos: line.field("qos", TWO)? as u16,
+        }))
+    }
+}
+
+fn part(line: &mut Line, bytes: &mut Bytes, word: &'static str, next: &str) -> Result<Part, Stop> {
+    line.word(word)?;
+    bytes.read(line, MOST_PART, next)
+}
+
+fn write(out: &mut impl Write, mut line: Line, bytes: &mut Bytes) -> Result<(), Stop> {
+    let given = Given::read(&mut line, bytes)?;
+    let room = room(&mut line)?;
+    line.answer(out)?;
+    let mut buffer = [BLANK; ROOM];
+    let lent = &mut buffer[..room];
+    written(out, given.write(bytes, lent), lent)
+}
