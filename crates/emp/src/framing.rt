@@ -54,7 +54,7 @@ fn show_data(teller: &Teller<'_, impl Print + Eprint>, data: DataMessage, file: 
     show_message(teller, data.envelope, data.message.slice(file))
 }
 
-// A line for each frame, up to the first that is refused.
+// A line for each frame, up to the first that is refused. Each is as long as it says, so no iterator of std goes by frames.
 fn unwrap_capture(teller: &Teller<'_, impl Print + Eprint>, capture: &[u8]) -> Told {
     let mut frame = 1;
     let mut place = 0;

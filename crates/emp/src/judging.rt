@@ -152,9 +152,10 @@ impl Judged<'_> {
         let rest = between(region, source.unwrap_or(0), region.len());
         let destination = with_zero(rest);
         let left = between(rest, destination.unwrap_or(0), rest.len()).len() as u64;
-        let found = match addresses.unjudged {
-            true => unjudged(self.message.len() < needed),
-            false => addresses_found(source, destination),
+        let found = if addresses.unjudged {
+            unjudged(self.message.len() < needed)
+        } else {
+            addresses_found(source, destination)
         };
         let source = source.unwrap_or(0) as u64;
         teller.tell(
@@ -258,8 +259,5 @@ fn sizes_in(message: &[u8]) -> Sizes {
 
 // The size of the first address, with its zero, where one ends in a zero.
 fn with_zero(bytes: &[u8]) -> Option<usize> {
-    match bytes.iter().position(|byte| *byte == 0) {
-        Some(place) => Some(place + 1),
-        None => None,
-    }
+    Some(bytes.iter().position(|byte| *byte == 0)? + 1)
 }

@@ -19,6 +19,7 @@ mod refusing;
 mod sending;
 mod watching;
 
+use crate::golden_files::GoldenFile;
 use golden::Name;
 use std::io::Input;
 use std::rt::{Env, Files};
@@ -131,10 +132,12 @@ fn on_file(
         further,
         ..
     } = command;
+    let golden = GoldenFile { teller, file };
     match command.verb {
-        Verb::List => golden_files::list_file(teller, file),
-        Verb::Check => golden_files::check_file(teller, file),
-        Verb::Find => find_in(teller, command, file),
+        Verb::List => golden.list(),
+        Verb::Check => golden.check(),
+        Verb::Find if command.halving => golden.find_by_halving(name_of(command)),
+        Verb::Find => golden.find(name_of(command)),
         Verb::Read => reading::read_message(teller, file),
         Verb::Judge => judging::judge_message(teller, file),
         Verb::Late => lateness::late_message(teller, file, number, further),
@@ -147,15 +150,11 @@ fn on_file(
     }
 }
 
-fn find_in(teller: &Teller<'_, impl Print + Eprint>, command: Command, file: &[u8]) -> Told {
-    let name = Name {
+fn name_of(command: Command) -> Name {
+    Name {
         message_type: (command.number % 65_536) as u16,
         number: narrow(command.further),
-    };
-    if command.halving {
-        return golden_files::find_by_halving_in(teller, file, name);
     }
-    golden_files::find_record(teller, file, name)
 }
 
 // The remainder loses nothing: the table of numbers has no NUMBER, COMMID or ACKNOWLEDGED that is larger.

@@ -3,7 +3,7 @@
 ghost use Rattle.std.specs.Prelude.{◌<◌, length};
 ghost use Rattle.emp.specs.Watching.{Onward};
 
-use crate::golden_files::check_file;
+use crate::golden_files::GoldenFile;
 use crate::pieces::{PIECE, read_piece};
 use crate::refusing::refuse;
 use feed::{Beside, Feed, Message, Refusal, advance, close, held};
@@ -43,13 +43,14 @@ pub fn watch_alone(teller: &Teller<'_, impl Input + Print + Eprint>) -> Told {
 }
 
 // A bad golden file is told before any byte of the stream is read.
-pub fn watch_beside(teller: &Teller<'_, impl Input + Print + Eprint>, golden: &[u8]) -> Told {
-    match check(golden) {
+pub fn watch_beside(teller: &Teller<'_, impl Input + Print + Eprint>, file: &[u8]) -> Told {
+    let golden = GoldenFile { teller, file };
+    match check(file) {
         Ok(_) => {
-            let mut watch = Watch::new(teller, Some(golden));
+            let mut watch = Watch::new(teller, Some(file));
             watch.run()
         }
-        Err(_) => check_file(teller, golden),
+        Err(_) => golden.check(),
     }
 }
 
@@ -92,6 +93,7 @@ impl<R: Input + Print + Eprint> Watch<'_, R> {
 }
 
 impl<R: Print + Eprint> Watch<'_, R> {
+    // A call uses as many bytes as it settles by, so no iterator of std goes by calls.
     fn take_piece(&mut self, piece: &[u8]) -> Result<(), Ended> {
         let mut left = piece;
         while !left.is_empty() {

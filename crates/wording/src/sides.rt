@@ -41,18 +41,19 @@ enum Cell {
     Nothing,
 }
 
-// Two messages side by side, or one alone, of which the other side is left out.
-#[derive(Clone, Copy)]
-struct Sides<'a> {
+// Two messages side by side, or one alone, of which the other side is left out; and who tells of them.
+#[derive(Drop)]
+struct Sides<'a, R> {
+    teller: &'a Teller<'a, R>,
     golden: &'a [u8],
     radio: &'a [u8],
     alone: bool,
 }
 
 // A row of them: the place where it begins, its own marks, and the first of the fields that it names.
-#[derive(Clone, Copy)]
-struct Line<'a> {
-    sides: Sides<'a>,
+#[derive(Drop)]
+struct Line<'a, R> {
+    sides: &'a Sides<'a, R>,
     place: usize,
     marks: &'a [u8],
     first: Option<usize>,
@@ -66,27 +67,18 @@ pub fn show_difference(
     total: usize,
     marks: &[u8; PLACES],
 ) -> Told {
-    teller.tell(Status::Refused, Row::Different, &[total as u64], golden)?;
     let sides = Sides {
+        teller,
         golden,
         radio,
         alone: false,
     };
+    teller.tell(Status::Refused, Row::Different, &[total as u64], golden)?;
     match teller.manner {
-        Manner::Words => show_sides(teller, sides, marks),
-        Manner::Plain => show_places(teller, sides, marks),
+        Manner::Words => sides.show_both(marks),
+        Manner::Plain => sides.show_places(marks),
         Manner::Quiet => Ok(Status::Refused),
     }
-}
-
-// A golden message ends before the rows do, so every place of the radio's after them differs.
-fn show_sides(
-    teller: &Teller<'_, impl Print + Eprint>,
-    sides: Sides<'_>,
-    marks: &[u8; PLACES],
-) -> Told {
-    show_rows(teller, sides, marks)?;
-    show_more(teller, PLACES, sides.radio.len(), 1)
 }
 
 // A message with one place in brackets. The row of a place beyond those shown comes behind them.
@@ -96,17 +88,18 @@ pub fn show_marked(
     place: usize,
     mark: u8,
 ) -> Told {
-    teller.tell(Status::Refused, Row::Marked, &[0], message)?;
     let sides = Sides {
+        teller,
         golden: message,
         radio: message,
         alone: true,
     };
-    show_rows(teller, sides, &marks_with(place, mark))?;
+    teller.tell(Status::Refused, Row::Marked, &[0], message)?;
+    sides.show_rows(&marks_with(place, mark))?;
     if place < PLACES {
-        return show_more(teller, PLACES, message.len(), 0);
+        return sides.show_more(PLACES, message.len(), 0);
     }
-    show_beyond(teller, sides, place, mark)
+    sides.show_beyond(place, mark)
 }
 
 fn marks_with(place: usize, mark: u8) -> [u8; PLACES] {
@@ -117,58 +110,90 @@ fn marks_with(place: usize, mark: u8) -> [u8; PLACES] {
     marks
 }
 
-fn show_beyond(
-    teller: &Teller<'_, impl Print + Eprint>,
-    sides: Sides<'_>,
-    place: usize,
-    mark: u8,
-) -> Told {
-    let column = place % ROW;
-    let row = place - column;
-    let mut marks = [0u8; ROW];
-    marks[column] = mark;
-    show_more(teller, PLACES, row, 0)?;
-    show_row(teller, sides, row, &marks)?;
-    show_more(teller, row.wrapping_add(ROW), sides.golden.len(), 0)
+impl<R: Print + Eprint> Sides<'_, R> {
+    // A golden message ends before the rows do, so every place of the radio's after them differs.
+    fn show_both(&self, marks: &[u8; PLACES]) -> Told {
+        self.show_rows(marks)?;
+        self.show_more(PLACES, self.radio.len(), 1)
+    }
+
+    fn show_beyond(&self, place: usize, mark: u8) -> Told {
+        let column = place % ROW;
+        let row = place - column;
+        let mut marks = [0u8; ROW];
+        marks[column] = mark;
+        self.show_more(PLACES, row, 0)?;
+        self.show_row(row, &marks)?;
+        self.show_more(row.wrapping_add(ROW), self.golden.len(), 0)
+    }
+
+    fn show_rows(&self, marks: &[u8; PLACES]) -> Told {
+        for k in 0..ROWS {
+            let row = k * ROW;
+            self.show_row(row, &marks[row..row + ROW])?;
+        }
+        Ok(Status::Refused)
+    }
+
+    // The row that begins at a place, by its own marks.
+    fn show_row(&self, place: usize, marks: &[u8]) -> Told {
+        let first = first_named(marks);
+        if self.golden.len() <= place && self.radio.len() <= place && first.is_none() {
+            return Ok(Status::Refused);
+        }
+        let line = Line {
+            sides: self,
+            place,
+            marks,
+            first,
+        };
+        let mut numbers = [0u64; NUMBERS];
+        for (k, number) in numbers.iter_mut().enumerate() {
+            *number = line.number(k);
+        }
+        self.teller
+            .tell(Status::Refused, Row::Row, &numbers, self.golden)
+    }
+
+    // The rows from a place to an end that are not shown, and, of two messages, their places.
+    fn show_more(&self, from: usize, end: usize, differing: u64) -> Told {
+        if end <= from {
+            return Ok(Status::Refused);
+        }
+        let left = end - from;
+        let rows = ((left - 1) / ROW) as u64 + 1;
+        let numbers = [rows, differing, left as u64];
+        self.teller.tell(Status::Refused, Row::More, &numbers, b"")
+    }
+
+    // The differing places that are shown.
+    fn show_places(&self, marks: &[u8; PLACES]) -> Told {
+        for (place, mark) in marks.iter().enumerate() {
+            if *mark != 0 {
+                self.show_place(place, *mark)?;
+            }
+        }
+        Ok(Status::Refused)
+    }
+
+    fn show_place(&self, place: usize, mark: u8) -> Told {
+        self.teller.tell(
+            Status::Refused,
+            Row::Place,
+            &[
+                place as u64,
+                (place < self.golden.len()) as u64,
+                byte_at(self.golden, place) as u64,
+                (place < self.radio.len()) as u64,
+                byte_at(self.radio, place) as u64,
+                mark as u64,
+            ],
+            self.golden,
+        )
+    }
 }
 
-fn show_rows(
-    teller: &Teller<'_, impl Print + Eprint>,
-    sides: Sides<'_>,
-    marks: &[u8; PLACES],
-) -> Told {
-    for k in 0..ROWS {
-        let row = k * ROW;
-        show_row(teller, sides, row, &marks[row..row + ROW])?;
-    }
-    Ok(Status::Refused)
-}
-
-// The row that begins at a place, by its own marks.
-fn show_row(
-    teller: &Teller<'_, impl Print + Eprint>,
-    sides: Sides<'_>,
-    place: usize,
-    marks: &[u8],
-) -> Told {
-    let first = first_named(marks);
-    if sides.golden.len() <= place && sides.radio.len() <= place && first.is_none() {
-        return Ok(Status::Refused);
-    }
-    let line = Line {
-        sides,
-        place,
-        marks,
-        first,
-    };
-    let mut numbers = [0u64; NUMBERS];
-    for (k, number) in numbers.iter_mut().enumerate() {
-        *number = line.number(k);
-    }
-    teller.tell(Status::Refused, Row::Row, &numbers, sides.golden)
-}
-
-impl Line<'_> {
+impl<R> Line<'_, R> {
     // The number that the row's template takes behind so many others.
     fn number(&self, k: usize) -> u64 {
         if k == 0 {
@@ -242,60 +267,4 @@ fn is_named(marks: &[u8], order: usize) -> bool {
 
 fn is_mark_of(mark: u8, order: usize) -> bool {
     mark as usize == order.wrapping_add(1)
-}
-
-// The rows from a place to an end that are not shown, and, of two messages, their places.
-fn show_more(
-    teller: &Teller<'_, impl Print + Eprint>,
-    from: usize,
-    end: usize,
-    differing: u64,
-) -> Told {
-    if end <= from {
-        return Ok(Status::Refused);
-    }
-    let left = end - from;
-    let rows = ((left - 1) / ROW) as u64 + 1;
-    teller.tell(
-        Status::Refused,
-        Row::More,
-        &[rows, differing, left as u64],
-        b"",
-    )
-}
-
-// The differing places that are shown.
-fn show_places(
-    teller: &Teller<'_, impl Print + Eprint>,
-    sides: Sides<'_>,
-    marks: &[u8; PLACES],
-) -> Told {
-    for (place, mark) in marks.iter().enumerate() {
-        if *mark != 0 {
-            show_place(teller, sides, place, *mark)?;
-        }
-    }
-    Ok(Status::Refused)
-}
-
-fn show_place(
-    teller: &Teller<'_, impl Print + Eprint>,
-    sides: Sides<'_>,
-    place: usize,
-    mark: u8,
-) -> Told {
-    let Sides { golden, radio, .. } = sides;
-    teller.tell(
-        Status::Refused,
-        Row::Place,
-        &[
-            place as u64,
-            (place < golden.len()) as u64,
-            byte_at(golden, place) as u64,
-            (place < radio.len()) as u64,
-            byte_at(radio, place) as u64,
-            mark as u64,
-        ],
-        golden,
-    )
 }
