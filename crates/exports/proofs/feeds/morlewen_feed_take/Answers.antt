@@ -23,5 +23,5 @@ returns c =
     let takes = step.ensures.0 ∙ ap (λ (s : State). taking s args.piece.now) (c.beside_in.ensures args.kept.now) in (
       c.found_word.ensures ∙ ap (λ (o : FeedOutcome). word (found_slots o.finding o.used)) takes,
       (λ i. record { kept = step.new.kept; numbers = c.beside_numbers.ensures step.new.kept i; fields = c.put_found.ensures i })
-      ∙ ap (λ (o : FeedOutcome). lent_after o args.fields.now) takes,
+          ∙ ap (λ (o : FeedOutcome). lent_after o args.fields.now) takes,
     )

@@ -1,5 +1,4 @@
 -- `goldens::morlewen_step`: the promise of `step`, told in a word and in two numbers; a step goes on by one or stays.
-use Prim.Native.Nat.{◌-◌}
 use native.Mathlib.Omega.{arith}
 use Rattle.golden.proofs.FewLaws.{step_goes_on_by_one}
 use Rattle.exports.proofs.FitsLaws.{step_fits}
