@@ -1,12 +1,12 @@
 // Send: events from standard input, a line each, answered the moment the line is in; at the end what became of each submission.
 // Rests on `sender`, which decides every answer; of the events no more is held than one read, one line and the ledger.
-use crate::events::{Event, Happening, event_in};
+use crate::events::event_in;
 use crate::fates::{list_fates, tell_totals};
 use crate::ledger::Ledger;
 use crate::pieces::{PIECE, read_piece};
 use crate::refusing::refuse_message;
 use console::table::between;
-use sender::Bench;
+use sender::{Bench, Event};
 use std::io::Input;
 use wording::refusals::What;
 use wording::{Status, Teller, Told};
@@ -108,15 +108,8 @@ impl<R: Print + Eprint> Sending<'_, R> {
     }
 
     fn take_event(&mut self, event: Event) -> Told<()> {
-        let commid = event.commid;
-        let waiting = &mut self.waiting;
-        let answer = match event.happening {
-            Happening::Submit => self.bench.submit(waiting, commid),
-            Happening::Ack => self.bench.ack(waiting, commid),
-            Happening::Nak => self.bench.nak(waiting, commid),
-            Happening::TimeOut => self.bench.time_out(waiting, commid),
-        };
-        match answer {
+        let commid = event.commid();
+        match self.bench.take(&mut self.waiting, event) {
             Ok(answer) => self.answered(answer, commid),
             Err(refusal) => self.refused(refusal, commid),
         }

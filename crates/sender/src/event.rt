@@ -1,5 +1,7 @@
 // The events that a bench meets, as one type, for whoever has them one after the other.
 // Each goes to the function of its name.
+ghost use Rattle.std.specs.Prelude.{◌≡◌};
+ghost use Rattle.sender.specs.History.{commid_of};
 ghost use Rattle.sender.specs.Told.{told_event, Answers};
 
 use crate::bench::{Answer, Bench};
@@ -12,6 +14,19 @@ pub enum Event {
     Ack(u32),
     Nak(u32),
     TimeOut(u32),
+}
+
+impl Event {
+    pub fn commid(self) -> u32
+        ensures { result ≡ commid_of (told_event self) }
+    {
+        match self {
+            Event::Submit(commid)
+            | Event::Ack(commid)
+            | Event::Nak(commid)
+            | Event::TimeOut(commid) => commid,
+        }
+    }
 }
 
 impl Bench {
