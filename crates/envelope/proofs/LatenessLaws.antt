@@ -1,12 +1,20 @@
--- What decides lateness, and how it goes on with the clock, as specs/Lateness states it.
+-- What decides lateness, and how it goes on with the clock, as specs/Lateness states it; and the sum compared by subtraction.
 -- The first by the "only" theorem, the others by the two tests of the definition.
-use Rattle.std.proofs.Common.{◌≡◌, ℕ, ◌+◌, ◌≤◌, Bool, true, false, cond, eqb, Option, sym, refl, ap, ◌∙◌, arith, ltb-false, ltb-true, le-ltb, lt-ltb, ne_eqb}
+use Rattle.std.proofs.Common.{◌≡◌, ℕ, ◌+◌, ◌-◌, ◌≤◌, Bool, true, false, cond, eqb, ltb, Option, sym, refl, ap, ◌∙◌, arith, ltb-false, ltb-true, le-ltb, lt-ltb, ne_eqb}
 use Rattle.envelope.specs.Fields.{AddressingFields, absent, present}
 use Rattle.envelope.specs.Lateness.{no_clock, late, in_time, late_after, lateness_of, told_lateness, AddressingDecides, LateStaysLate, InTimeUpToEntryAndTtl}
 use Rattle.envelope.specs.Told.{told_addressing}
 use Rattle.envelope.specs.declared.fields.Addressing.{Addressing}
 use Rattle.envelope.specs.declared.lateness.Lateness.TheVariants.{Late, InTime}
 use Rattle.envelope.proofs.OnlyLaws.{only_judges_lateness}
+
+-- a clock is past entry and TTL together exactly where what it is past the entry is more than the TTL
+pub by_subtraction : (entry ttl clock : ℕ) → ltb ttl (clock - entry) ≡ late_after entry ttl clock
+by_subtraction entry ttl clock = from_test (late_after entry ttl clock) refl
+  where
+    from_test : (past : Bool) → late_after entry ttl clock ≡ past → ltb ttl (clock - entry) ≡ past
+    from_test true e = lt-ltb ttl (clock - entry) (omega (arith, ltb-true (entry + ttl) clock e))
+    from_test false e = le-ltb ttl (clock - entry) (omega (arith, ltb-false (entry + ttl) clock e))
 
 pub addressing_decides : AddressingDecides
 addressing_decides d e entry clock r s same first second =

@@ -1,6 +1,6 @@
 -- For each public promise two answers that a careless program would give, each refuted by computing.
 -- They show that no promise is met by whatever comes.
-use Rattle.std.specs.Prelude.{Ok, Err, Some, Result}
+use Rattle.std.specs.Prelude.{Ok, Err, Some, Result, ◌≢◌}
 use mathlib.Core.Bool.{true, false}
 use mathlib.Core.List.{List, [], ◌∷◌, ◌++◌}
 use mathlib.Core.Path.{◌≡◌, refl, sym, ap, ◌∙◌}
@@ -244,11 +244,11 @@ compressed_is_not_always_no kept = true_is_not_false kept refl
 pub compressed_is_bit_2 : TellsCompression 2 true → ⊥
 compressed_is_bit_2 kept = true_is_not_false refl kept
 
-pub kind_is_not_left_in_its_place : (k : Kind) → told_kind k ≡ 8 → TellsKind 8 k → ⊥
-kind_is_not_left_in_its_place k wrong kept = apart 8 1 tt (sym wrong ∙ kept)
+pub kind_is_not_left_in_its_place : (k : Kind) → told_kind k ≢ 1 → TellsKind 8 k → ⊥
+kind_is_not_left_in_its_place k wrong kept = wrong kept
 
-pub kind_is_two_bits : (k : Kind) → told_kind k ≡ 4 → TellsKind 0x20 k → ⊥
-kind_is_two_bits k wrong kept = apart 4 0 tt (sym wrong ∙ kept)
+pub kind_is_two_bits : (k : Kind) → told_kind k ≢ 0 → TellsKind 0x20 k → ⊥
+kind_is_two_bits k wrong kept = wrong kept
 
 -- ---- qos::split: priority taken for class; all zero. qos::join: a number that does not fit run round; all refused
 
