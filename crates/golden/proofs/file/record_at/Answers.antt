@@ -1,10 +1,13 @@
--- `file::record_at`: the part of 512 bytes that is lent is the record.
-use mathlib.Core.Path.{ap}
-use Prim.Native.Nat.{ℕ, ◌*◌}
-use native.Mathlib.Nat.{add-sub_cancel_left}
-use lib.ListN.{take, drop}
+-- `file::record_at`: the first 512 bytes from the place of the record on are the record.
+use mathlib.Core.Path.{refl, ap, ◌∙◌}
+use Prim.Native.Nat.{◌*◌}
+use lib.ListN.{take}
+use Rattle.std.proofs.lemmas.Option.{MatchOption-at_some}
+use Rattle.golden.proofs.RecordLaws.{part_to_end}
 use Rattle.golden.specs.Record.{record_size}
 use Rattle.golden.proofs.file.record_at.Goals as goal
 
-pub returns-clause-bytes : goal.returns-clause-bytes
-returns-clause-bytes c = ap (λ (k : ℕ). take k (drop (c.args.n * record_size) c.args.file.now)) (add-sub_cancel_left (c.args.n * record_size) record_size)
+pub returns : goal.returns
+returns c =
+    (MatchOption-at_some _ _ _ c.unwrap.ensures c.first_chunk.ensures.cases).same
+    ∙ ap (take record_size) (part_to_end (c.args.n * record_size) _ c.args.file.now refl)
