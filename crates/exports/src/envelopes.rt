@@ -36,6 +36,7 @@ pub fn morlewen_read(bytes: &[u8], fields: &mut [u64; FIELDS]) -> u64
     read_word(reading)
 }
 
+// A field for each argument: the C interface has no `Given`.
 pub fn morlewen_write(
     message_type: u16,
     version: u8,

@@ -32,7 +32,7 @@ pub(crate) fn open_at(file: &[u8], n: usize) -> Result<GoodRecord, Refusal>
     open(record_at(file, n))
 }
 
-// The bytes of a record that is there.
+// The bytes of a record that is there. A file and a number stay two: they are the interface, and a struct of both would be no shorter here.
 pub(crate) fn record_at(file: &[u8], n: usize) -> &[u8; Record::SIZE]
     requires { n < count_of file.now }
     ensures { result.now ≡ record_at file.now n }
