@@ -2,6 +2,7 @@
 // Rests on `console` for the words and the number.
 use console::decimal::decimal_of;
 use console::table::{piece, pieces, row_named};
+use wording::rows::NoRow;
 
 const BLANK: u8 = b' ';
 
@@ -15,10 +16,6 @@ pub enum Happening {
     Nak,
     TimeOut,
 }
-
-// A row that the table has not.
-#[derive(Clone, Copy)]
-pub struct NoRow;
 
 impl TryFrom<usize> for Happening {
     type Error = NoRow;

@@ -1,5 +1,6 @@
 // The words that the tool is called with: options, and names, of which the first is the command's.
 // Rests on std's `env`.
+use crate::rows::NoRow;
 use crate::telling::Manner;
 use console::files::is_standard_input;
 use console::table::row_named;
@@ -26,10 +27,6 @@ enum Switch {
     NamesAlone,
     Halving,
 }
-
-// A row that a table has not.
-#[derive(Clone, Copy)]
-pub struct NoRow;
 
 impl TryFrom<usize> for Switch {
     type Error = NoRow;

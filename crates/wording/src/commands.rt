@@ -1,7 +1,7 @@
 // A command with its numbers, out of the words that the tool is called with, before any file is opened.
 // Rests on `console` for tables and numbers, and on `arguments`.
-use crate::arguments::{BLANK, Given, NoRow, OPTIONS, WORD, word_at};
-use crate::rows::Row;
+use crate::arguments::{BLANK, Given, OPTIONS, WORD, word_at};
+use crate::rows::{NoRow, Row};
 use crate::status::{Complained, Told};
 use crate::telling::complain;
 use console::decimal::decimal_of;
