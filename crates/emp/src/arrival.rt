@@ -7,7 +7,8 @@ use envelope::sequence::{Sequence, judge};
 use golden::{Found, Name, compare, find};
 use wording::{Row, Status, Told};
 
-// How a message and its record go together: by the first the template chooses, and the others stand in its words.
+// How a message and its record go together: by the first the template chooses, and the others stand in its words. An enum of the choices is no
+// plainer: each number stands once.
 #[derive(Clone, Copy)]
 struct Beside {
     choice: u64,
@@ -73,7 +74,7 @@ impl<R: Print + Eprint> Watch<'_, R> {
     }
 }
 
-// The template's choice of how a message follows the last one, and how many steps ahead or behind.
+// The template's choice of how a message follows the last one, each number once, and how many steps ahead or behind.
 fn follows(last: Option<u32>, number: u32) -> (u64, u64) {
     match last.map(|last| judge(last, number)) {
         None => (0, 0),

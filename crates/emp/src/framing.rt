@@ -55,17 +55,19 @@ fn show_data(teller: &Teller<'_, impl Print + Eprint>, data: DataMessage, file: 
 }
 
 // A line for each frame, up to the first that is refused. Each is as long as it says, so no iterator of std goes by frames.
+#[tactic(auto, using(frame::proofs::CaptureLaws::first_is_there))]
 fn unwrap_capture(teller: &Teller<'_, impl Print + Eprint>, capture: &[u8]) -> Told {
-    let mut frame = 1;
-    let mut place = 0;
-    while place < capture.len() {
-        let end = place + first(&capture[place..]);
-        let spot = Spot { frame, place };
-        if tell_frame(teller, spot, &capture[place..end])? == Status::Refused {
+    let mut spot = Spot::FIRST;
+    let mut left = capture;
+    while !left.is_empty() {
+        let size = first(left);
+        let (frame, behind) = left.split_at(size);
+        if tell_frame(teller, spot, frame)? == Status::Refused {
             return Ok(Status::Refused);
         }
-        frame += 1;
-        place = end;
+        spot.frame = spot.frame.saturating_add(1);
+        spot.place = spot.place.saturating_add(size);
+        left = behind;
     }
     Ok(Status::Done)
 }

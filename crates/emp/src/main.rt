@@ -54,7 +54,7 @@ fn run(rt: &(impl Env + Files + Input + Print + Eprint)) -> Told {
     };
     let verb = Verb::named(rt, *name)?;
     if given.help {
-        return helping::help_for(&helper, verb.line(), true);
+        return helping::help_for(&helper, verb);
     }
     let command = command_of(rt, verb, &given)?;
     let manner = given.manner();
@@ -91,7 +91,7 @@ fn help_on(teller: &Teller<'_, impl Env + Print + Eprint>, named: Option<Named>)
     match named {
         Some(named) => {
             let verb = Verb::named(teller.rt, named.first)?;
-            helping::help_for(teller, verb.line(), true)
+            helping::help_for(teller, verb)
         }
         None => helping::help(teller),
     }

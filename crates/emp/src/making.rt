@@ -26,7 +26,7 @@ pub fn make_record(teller: &Teller<'_, impl Print + Eprint>, message: &[u8]) -> 
 // The copy is lent in just the file's length; a file too long for any copy is refused before that is looked at.
 pub fn retire_record(teller: &Teller<'_, impl Print + Eprint>, file: &[u8], record: usize) -> Told {
     let mut buffer = [0u8; Record::LARGEST_FILE];
-    let copy = front(&mut buffer, file.len());
+    let copy = &mut buffer[..file.len().min(Record::LARGEST_FILE)];
     match retire(file, record, copy) {
         Ok(()) => teller.put(copy),
         Err(refusal) => {
@@ -40,12 +40,4 @@ pub fn retire_record(teller: &Teller<'_, impl Print + Eprint>, file: &[u8], reco
             refuse(teller, of, refusal)
         }
     }
-}
-
-// So many bytes at the front of a buffer.
-fn front<'a>(buffer: &'a mut [u8], size: usize) -> &'a mut [u8] {
-    if buffer.len() < size {
-        return &mut buffer[..0];
-    }
-    &mut buffer[..size]
 }

@@ -1,5 +1,8 @@
 // The words that the tool is called with: options, and names, of which the first is the command's.
 // Rests on std's `env`.
+ghost use Rattle.std.specs.Prelude.{◌≡◌, ◌≤◌, cond, length};
+
+use crate::rows::NoRow;
 use crate::telling::Manner;
 use console::files::is_standard_input;
 use console::table::row_named;
@@ -26,10 +29,6 @@ enum Switch {
     NamesAlone,
     Halving,
 }
-
-// A row that a table has not.
-#[derive(Clone, Copy)]
-pub struct NoRow;
 
 impl TryFrom<usize> for Switch {
     type Error = NoRow;
@@ -121,7 +120,9 @@ impl Given {
         }
     }
 
-    pub fn manner(&self) -> Manner {
+    pub fn manner(&self) -> Manner
+        ensures { result ≡ cond self.now.quiet Manner.Quiet (cond self.now.plain Manner.Plain Manner.Words) }
+    {
         if self.quiet {
             return Manner::Quiet;
         }
@@ -129,7 +130,9 @@ impl Given {
     }
 
     // Help and version are answers that -q does not take away.
-    pub fn manner_of_help(&self) -> Manner {
+    pub fn manner_of_help(&self) -> Manner
+        ensures { result ≡ cond self.now.plain Manner.Plain Manner.Words }
+    {
         if self.plain {
             return Manner::Plain;
         }
@@ -142,7 +145,9 @@ impl Given {
     }
 
     // The names, no more than a command takes.
-    pub fn names(&self) -> &[usize] {
+    pub fn names(&self) -> &[usize]
+        ensures { length result.now ≤ NAMES }
+    {
         if self.count < NAMES {
             return &self.names[..self.count];
         }

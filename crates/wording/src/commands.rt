@@ -1,7 +1,9 @@
 // A command with its numbers, out of the words that the tool is called with, before any file is opened.
 // Rests on `console` for tables and numbers, and on `arguments`.
-use crate::arguments::{BLANK, Given, NoRow, OPTIONS, WORD, word_at};
-use crate::rows::Row;
+ghost use Rattle.wording.specs.Verbs.{VerbOfRow};
+
+use crate::arguments::{BLANK, Given, OPTIONS, WORD, word_at};
+use crate::rows::{NoRow, Row};
 use crate::status::{Complained, Told};
 use crate::telling::complain;
 use console::decimal::decimal_of;
@@ -35,6 +37,8 @@ pub enum Verb {
 
 impl TryFrom<usize> for Verb {
     type Error = NoRow;
+
+    ghost try_from_gives = { VerbOfRow };
 
     fn try_from(row: usize) -> Result<Verb, NoRow> {
         match row {
@@ -128,7 +132,7 @@ impl Verb {
     }
 
     // Its row of the table of commands.
-    pub fn line(self) -> &'static [u8] {
+    pub(crate) fn line(self) -> &'static [u8] {
         row(COMMANDS, self as usize)
     }
 }

@@ -1,6 +1,6 @@
 // Help: a command's form and what it does, or every command, option, exit status and refusal; and the version.
 // Rests on the table of commands, which is lent.
-use crate::commands::{COMMANDS, TAB};
+use crate::commands::{COMMANDS, TAB, Verb};
 use crate::rows::Row;
 use crate::status::{Status, Told};
 use crate::telling::{Manner, PAGE, Teller};
@@ -39,8 +39,13 @@ Exit status
 Refusals
 ";
 
-// One command, by its row of the table: its form, what it does, and the lines that it tells plainly.
-pub fn help_for(teller: &Teller<'_, impl Print + Eprint>, line: &[u8], whole: bool) -> Told {
+// One command: its form, what it does, and the lines that it tells plainly.
+pub fn help_for(teller: &Teller<'_, impl Print + Eprint>, verb: Verb) -> Told {
+    tell_command(teller, verb.line(), true)
+}
+
+// By its row of the table.
+fn tell_command(teller: &Teller<'_, impl Print + Eprint>, line: &[u8], whole: bool) -> Told {
     let form = piece(line, TAB, 0).len();
     let does = piece(line, TAB, 1).len();
     let behind_form = form.wrapping_add(1);
@@ -80,7 +85,7 @@ fn list_commands(teller: &Teller<'_, impl Print + Eprint>) -> Told {
         if line.is_empty() {
             break;
         }
-        help_for(teller, line, false)?;
+        tell_command(teller, line, false)?;
     }
     Ok(Status::Done)
 }

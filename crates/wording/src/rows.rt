@@ -55,3 +55,7 @@ pub enum Row {
     NotANumber,
     LargeFile,
 }
+
+// Of any table: there is no such row.
+#[derive(Clone, Copy)]
+pub struct NoRow;

@@ -1,6 +1,8 @@
 // Messages in rows of hex, with places in brackets and the fields that they lie in: two side by side where they differ, plainly a line for
 // each place; or one by itself where it is refused.
 // Rests on marks that are lent, a byte for each place: 0, or, of a place in brackets, one more than the order of its field in the envelope's table.
+ghost use Rattle.std.specs.Prelude.{◌≡◌, slice_index};
+
 use crate::rows::Row;
 use crate::status::{Status, Told};
 use crate::telling::{Manner, Teller};
@@ -251,7 +253,9 @@ fn cell_of(there: bool, marked: bool) -> Cell {
 }
 
 // A byte that is not there counts as 0.
-pub fn byte_at(bytes: &[u8], place: usize) -> u8 {
+pub fn byte_at(bytes: &[u8], place: usize) -> u8
+    ensures { result ≡ slice_index bytes.now place }
+{
     bytes.get(place).copied().unwrap_or(0)
 }
 
