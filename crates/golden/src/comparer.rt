@@ -20,7 +20,7 @@ pub fn compare(file: &[u8], n: usize, radio: &[u8], list: &mut [u32]) -> Result<
     Ok(list_positions(stored.part.slice(file), radio, list))
 }
 
-// Puts the differing positions into the list, as far as it has room, and answers how many there are.
+// Puts the differing positions into the list, as far as it has room, and answers how many there are: C lends the list, and the total may be past its end.
 fn list_positions(golden: &[u8], radio: &[u8], list: &mut [u32]) -> usize
     requires { (length golden.now < 2 ^ 32) × (length radio.now < 2 ^ 32) }
     ensures { (result ≡ length (differing golden.now radio.now))

@@ -67,7 +67,7 @@ pub fn show_difference(
     golden: &[u8],
     radio: &[u8],
     total: usize,
-    marks: &[u8; PLACES],
+    marks: &[u8],
 ) -> Told {
     let sides = Sides {
         teller,
@@ -114,7 +114,7 @@ fn marks_with(place: usize, mark: u8) -> [u8; PLACES] {
 
 impl<R: Print + Eprint> Sides<'_, R> {
     // A golden message ends before the rows do, so every place of the radio's after them differs.
-    fn show_both(&self, marks: &[u8; PLACES]) -> Told {
+    fn show_both(&self, marks: &[u8]) -> Told {
         self.show_rows(marks)?;
         self.show_more(PLACES, self.radio.len(), 1)
     }
@@ -129,10 +129,10 @@ impl<R: Print + Eprint> Sides<'_, R> {
         self.show_more(row.wrapping_add(ROW), self.golden.len(), 0)
     }
 
-    fn show_rows(&self, marks: &[u8; PLACES]) -> Told {
+    fn show_rows(&self, marks: &[u8]) -> Told {
         for k in 0..ROWS {
             let row = k * ROW;
-            self.show_row(row, &marks[row..row + ROW])?;
+            self.show_row(row, between(marks, row, row + ROW))?;
         }
         Ok(Status::Refused)
     }
@@ -169,7 +169,7 @@ impl<R: Print + Eprint> Sides<'_, R> {
     }
 
     // The differing places that are shown.
-    fn show_places(&self, marks: &[u8; PLACES]) -> Told {
+    fn show_places(&self, marks: &[u8]) -> Told {
         for (place, mark) in marks.iter().enumerate() {
             if *mark != 0 {
                 self.show_place(place, *mark)?;
