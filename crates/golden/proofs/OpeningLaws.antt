@@ -10,7 +10,7 @@ use Rattle.envelope.specs.Fields.{Answer}
 use Rattle.envelope.specs.Reading.{reading}
 use Rattle.envelope.specs.Refusals.{plainly}
 use Rattle.golden.specs.Helpers.{bad, opened_as, opening}
-use Rattle.golden.specs.Record.{head_size, is_retired, stored_length, all_zero, bad_length, by_reading, judging}
+use Rattle.golden.specs.Record.{record_size, head_size, is_retired, stored_length, all_zero, bad_length, by_reading, judging}
 use Rattle.golden.proofs.RecordLaws.{part_to_end}
 
 module _ (r : List ℕ) (l : ℕ) (e : l ≡ stored_length r) where
@@ -18,9 +18,9 @@ module _ (r : List ℕ) (l : ℕ) (e : l ≡ stored_length r) where
   unfolding opening judging
   opened_23 h = rw (← e, h)
 
-  module _ (h : bad_length l ≡ false) (b : Bool) (z : b ≡ all_zero (take (length r - (head_size + l)) (drop (head_size + l) r))) where
+  module _ (h : bad_length l ≡ false) (long : length r ≡ record_size) (b : Bool) (z : b ≡ all_zero (take (record_size - (head_size + l)) (drop (head_size + l) r))) where
     zeros : b ≡ all_zero (drop (head_size + l) r)
-    zeros = z ∙ ap all_zero (part_to_end (head_size + l) r)
+    zeros = z ∙ ap all_zero (part_to_end (head_size + l) record_size r long)
 
     pub opened_24 : b ≡ false → bad (plainly 24) ≡ opening r
     unfolding opening judging

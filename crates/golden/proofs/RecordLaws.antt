@@ -30,8 +30,8 @@ each_zero [] h = refl
 each_zero (b ∷ s) h = rw (eq-eqb b 0 (h 0)) (each_zero s (λ i. h (suc i)))
 
 -- a part that ends at the end
-pub part_to_end : (k : ℕ) (r : List ℕ) → take (length r - k) (drop k r) ≡ drop k r
-part_to_end k r = take_all (length r - k) (drop k r) (omega (arith, length-drop k r))
+pub part_to_end : (k l : ℕ) (r : List ℕ) → length r ≡ l → take (l - k) (drop k r) ≡ drop k r
+part_to_end k l r e = take_all (l - k) (drop k r) (omega (arith, length-drop k r))
 
 -- ---- a length that is not refused
 

@@ -1,11 +1,10 @@
 // Check: every record of a file, and that no two live ones have one name.
-ghost use Rattle.std.specs.Prelude.{false, ◌≡◌, ◌≤◌, ◌<◌, length};
+ghost use Rattle.std.specs.Prelude.{false, ◌≡◌, ◌≤◌, ◌<◌};
 ghost use Rattle.envelope.specs.Told.{told_envelope};
 ghost use Rattle.golden.specs.Checking.{Checks};
 ghost use Rattle.golden.specs.File.{count_of};
 ghost use Rattle.golden.specs.Finding.{name_of, told_name};
 ghost use Rattle.golden.specs.Helpers.{written_name, is_written, written_before, repeats_by, buckets, bucket_of};
-ghost use Rattle.golden.specs.Record.{record_size};
 
 use crate::file::{count, open_at, record_at};
 use crate::finder::Name;
@@ -57,15 +56,13 @@ fn name_taken(file: &[u8], name: Name, end: usize, used: bool) -> bool
     used && (0..end).any(|earlier| is_written(record_at(file, earlier), name))
 }
 
-fn is_written(bytes: &[u8], name: Name) -> bool
-    requires { length bytes.now ≡ record_size }
+fn is_written(bytes: &[u8; Record::SIZE], name: Name) -> bool
     ensures { result ≡ is_written (told_name name) bytes.now }
 {
     !is_retired(bytes) && written_name(bytes) == name
 }
 
-fn written_name(bytes: &[u8]) -> Name
-    requires { length bytes.now ≡ record_size }
+fn written_name(bytes: &[u8; Record::SIZE]) -> Name
     ensures { told_name result ≡ written_name bytes.now }
 {
     let at = Record::TYPE_PLACE;

@@ -1,9 +1,8 @@
 // The file rule, the count of a file, and one record of it.
-ghost use Rattle.std.specs.Prelude.{not, ◌&&◌, ◌≡◌, ◌<◌, length};
+ghost use Rattle.std.specs.Prelude.{not, ◌&&◌, ◌≡◌, ◌<◌};
 ghost use Rattle.golden.specs.File.{bad_file, count_of, not_there, record_at};
 ghost use Rattle.golden.specs.Helpers.{told_opening, opening};
 ghost use Rattle.golden.specs.Listing.{Counts};
-ghost use Rattle.golden.specs.Record.{record_size};
 
 use crate::record::{GoodRecord, Record, open};
 use crate::refusal::Refusal;
@@ -34,11 +33,10 @@ pub(crate) fn open_at(file: &[u8], n: usize) -> Result<GoodRecord, Refusal>
 }
 
 // The bytes of a record that is there.
-pub(crate) fn record_at(file: &[u8], n: usize) -> &[u8]
+pub(crate) fn record_at(file: &[u8], n: usize) -> &[u8; Record::SIZE]
     requires { n < count_of file.now }
-    ensures bytes { result.now ≡ record_at file.now n }
-    ensures whole { length result.now ≡ record_size }
+    ensures { result.now ≡ record_at file.now n }
 {
     let start = n * Record::SIZE;
-    &file[start..start + Record::SIZE]
+    file[start..start + Record::SIZE].as_array().unwrap()
 }

@@ -2,7 +2,7 @@
 ghost use Rattle.std.specs.Prelude.{◌≡◌, ◌≤◌, length};
 ghost use Rattle.golden.specs.Helpers.{told_opening, opening};
 ghost use Rattle.golden.specs.Making.{record_of};
-ghost use Rattle.golden.specs.Record.{record_size, message_room, stored_word, is_retired, stored_length, all_zero, bad_length};
+ghost use Rattle.golden.specs.Record.{message_room, stored_word, is_retired, stored_length, all_zero, bad_length};
 
 use crate::refusal::Refusal;
 use envelope::numbers::{two_bytes, two_digits};
@@ -56,8 +56,7 @@ impl Record {
 }
 
 // Judges the bytes of one record.
-pub(crate) fn open(bytes: &[u8]) -> Result<GoodRecord, Refusal>
-    requires { length bytes.now ≡ record_size }
+pub(crate) fn open(bytes: &[u8; Record::SIZE]) -> Result<GoodRecord, Refusal>
     ensures { told_opening result ≡ opening bytes.now }
 {
     let size = stored_length(bytes);
@@ -77,24 +76,21 @@ pub(crate) fn open(bytes: &[u8]) -> Result<GoodRecord, Refusal>
 }
 
 #[tactic(auto, unfolding(crate::specs::Record::stored_length))]
-pub(crate) fn stored_length(bytes: &[u8]) -> usize
-    requires { length bytes.now ≡ record_size }
+pub(crate) fn stored_length(bytes: &[u8; Record::SIZE]) -> usize
     ensures { result ≡ stored_length bytes.now }
 {
     (stored_word(bytes) % Record::RETIRED_MARK) as usize
 }
 
 #[tactic(auto, unfolding(crate::specs::Record::is_retired))]
-pub(crate) fn is_retired(bytes: &[u8]) -> bool
-    requires { length bytes.now ≡ record_size }
+pub(crate) fn is_retired(bytes: &[u8; Record::SIZE]) -> bool
     ensures { result ≡ is_retired bytes.now }
 {
     Record::RETIRED_MARK <= stored_word(bytes)
 }
 
 #[tactic(auto, using(envelope::proofs::RuleLaws::two_at_is), unfolding(crate::specs::Record::stored_word))]
-fn stored_word(bytes: &[u8]) -> u16
-    requires { length bytes.now ≡ record_size }
+fn stored_word(bytes: &[u8; Record::SIZE]) -> u16
     ensures { result ≡ stored_word bytes.now }
 {
     two_bytes(bytes[0], bytes[1])

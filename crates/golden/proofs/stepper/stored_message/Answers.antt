@@ -8,4 +8,4 @@ pub returns-then-not-has_record : goal.returns-then-not-has_record
 returns-then-not-has_record c = stored_nowhere _ _ (sym c.has_record.ensures ∙ c.if-not-has_record.true)
 
 pub returns : goal.returns
-returns c = stored_there _ c.args.n (sym c.has_record.ensures ∙ c.if-not-has_record.false) _ (c.stored_length.ensures ∙ ap stored_length c.record_at.ensures.bytes)
+returns c = stored_there _ c.args.n (sym c.has_record.ensures ∙ c.if-not-has_record.false) _ (c.stored_length.ensures ∙ ap stored_length c.record_at.ensures)
