@@ -37,5 +37,6 @@ pub(crate) fn record_at(file: &[u8], n: usize) -> &[u8; Record::SIZE]
     requires { n < count_of file.now }
     ensures { result.now ≡ record_at file.now n }
 {
-    file[n * Record::SIZE..].first_chunk().unwrap()
+    let start = n * Record::SIZE;
+    file[start..start + Record::SIZE].as_array().unwrap()
 }

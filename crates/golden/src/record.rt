@@ -47,9 +47,7 @@ impl Record {
         ensures { result.bytes ≡ record_of message.now }
     {
         let mut fresh = [0u8; Record::SIZE];
-        let size = two_digits(message.len() as u16);
-        fresh[0] = size[0];
-        fresh[1] = size[1];
+        fresh[..Record::HEAD_SIZE].copy_from_slice(&two_digits(message.len() as u16));
         fresh[Record::HEAD_SIZE..Record::HEAD_SIZE + message.len()].copy_from_slice(message);
         Record { bytes: fresh }
     }
