@@ -10,15 +10,15 @@ use wording::{Row, Status, Told};
 // How a message and its record go together: by the first the template chooses, and the others stand in its words. An enum of the choices is no
 // plainer: each number stands once.
 #[derive(Clone, Copy)]
-struct Beside {
+struct Recorded {
     choice: u64,
     record: usize,
     differing: u64,
 }
 
-impl Beside {
-    fn new(choice: u64, record: usize, differing: u64) -> Beside {
-        Beside {
+impl Recorded {
+    fn new(choice: u64, record: usize, differing: u64) -> Recorded {
+        Recorded {
             choice,
             record,
             differing,
@@ -31,8 +31,8 @@ impl<R: Print + Eprint> Watch<'_, R> {
     pub(crate) fn tell_message(&self, header: Header) -> Told {
         let message = self.message();
         let (choice, steps) = follows(self.last, header.number);
-        let beside = self.beside(header, message);
-        let record = beside.record as u64;
+        let recorded = self.recorded(header, message);
+        let record = recorded.record as u64;
         self.teller.tell(
             Status::Done,
             Row::Message,
@@ -44,10 +44,10 @@ impl<R: Print + Eprint> Watch<'_, R> {
                 choice,
                 steps,
                 steps,
-                beside.choice,
+                recorded.choice,
                 record,
                 record,
-                beside.differing,
+                recorded.differing,
                 record,
                 record,
             ],
@@ -56,9 +56,9 @@ impl<R: Print + Eprint> Watch<'_, R> {
     }
 
     // The golden file was checked, so a record is found, or no live one has that type and number; one that is retired may.
-    fn beside(&self, header: Header, message: &[u8]) -> Beside {
+    fn recorded(&self, header: Header, message: &[u8]) -> Recorded {
         let Some(golden) = self.golden else {
-            return Beside::new(0, 0, 0);
+            return Recorded::new(0, 0, 0);
         };
         let name = Name {
             message_type: header.message_type,
@@ -67,8 +67,8 @@ impl<R: Print + Eprint> Watch<'_, R> {
         match find(golden, name) {
             Ok(Found { record, .. }) => compared_with(message, golden, record),
             Err(_) => match retired_named(golden, name) {
-                Some(record) => Beside::new(5, record, 0),
-                None => Beside::new(1, 0, 0),
+                Some(record) => Recorded::new(5, record, 0),
+                None => Recorded::new(1, 0, 0),
             },
         }
     }
@@ -86,11 +86,11 @@ fn follows(last: Option<u32>, number: u32) -> (u64, u64) {
 }
 
 // Of the places only their total is told. Other answers are not met: the record is good and live, and the message was read.
-fn compared_with(message: &[u8], golden: &[u8], record: usize) -> Beside {
+fn compared_with(message: &[u8], golden: &[u8], record: usize) -> Recorded {
     let mut places = [0u32; 1];
     match compare(golden, record, message, &mut places) {
-        Ok(0) => Beside::new(2, record, 0),
-        Ok(total) => Beside::new(3, record, total as u64),
-        Err(_) => Beside::new(4, record, 0),
+        Ok(0) => Recorded::new(2, record, 0),
+        Ok(total) => Recorded::new(3, record, total as u64),
+        Err(_) => Recorded::new(4, record, 0),
     }
 }

@@ -85,10 +85,7 @@ impl Ledger {
 
     // The submissions that it holds.
     pub fn entries(&self) -> &[Entry] {
-        if self.accepted < ROOM {
-            return &self.entries[..self.accepted];
-        }
-        &self.entries
+        &self.entries[..self.accepted.min(ROOM)]
     }
 }
 

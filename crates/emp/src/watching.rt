@@ -44,14 +44,11 @@ pub fn watch_alone(teller: &Teller<'_, impl Input + Print + Eprint>) -> Told {
 
 // A bad golden file is told before any byte of the stream is read.
 pub fn watch_beside(teller: &Teller<'_, impl Input + Print + Eprint>, file: &[u8]) -> Told {
-    let golden = GoldenFile { teller, file };
-    match check(file) {
-        Ok(_) => {
-            let mut watch = Watch::new(teller, Some(file));
-            watch.run()
-        }
-        Err(_) => golden.check(),
+    if check(file).is_err() {
+        return GoldenFile { teller, file }.check();
     }
+    let mut watch = Watch::new(teller, Some(file));
+    watch.run()
 }
 
 impl<'a, R> Watch<'a, R> {

@@ -148,10 +148,7 @@ impl Given {
     pub fn names(&self) -> &[usize]
         ensures { length result.now ≤ NAMES }
     {
-        if self.count < NAMES {
-            return &self.names[..self.count];
-        }
-        &self.names
+        &self.names[..self.count.min(NAMES)]
     }
 }
 

@@ -144,7 +144,7 @@ pub fn unknown_option(rt: &(impl Env + Print + Eprint), argument: usize) -> Comp
     complain(rt, Row::UnknownOption, word, row(OPTIONS, near))
 }
 
-// The command of a row, where it has as many words as its form, each of its kind.
+// The command of a verb, where there are as many words as in its form, each of its kind.
 pub fn command_of(rt: &(impl Env + Print + Eprint), verb: Verb, given: &Given) -> Told<Command> {
     let form = piece(verb.line(), TAB, 0);
     match misfit(form, verb, given) {

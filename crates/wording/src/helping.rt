@@ -1,5 +1,5 @@
 // Help: a command's form and what it does, or every command, option, exit status and refusal; and the version.
-// Rests on the table of commands, which is lent.
+// Rests on the table of commands.
 use crate::commands::{COMMANDS, TAB, Verb};
 use crate::rows::Row;
 use crate::status::{Status, Told};
