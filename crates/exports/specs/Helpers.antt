@@ -1,6 +1,8 @@
--- The meaning of this crate's private type, an addressing as seven numbers, the order of the verdicts, and the rule that a number tells.
+-- The meaning of this crate's private types, an addressing as seven numbers and the slots of an answer, the order of the verdicts, and the rule that a number tells.
 -- No promise of a public function cites it.
 use Rattle.exports.specs.Envelopes.{EndNumbers}
+use Rattle.exports.specs.Word.{Slots}
+use Rattle.exports.specs.declared.answers.Slots as code
 use Rattle.exports.specs.declared.envelopes.Ends.{Ends}
 use Rattle.std.specs.Prelude.{ℕ, ◌≤◌, List, [], ◌∷◌, ◌≡◌, ◌≢◌, Option, Some, None}
 use Rattle.envelope.specs.Told.{told_fault}
@@ -19,6 +21,9 @@ told_ends e =
       destination_place = e.destination_place;
       destination_size = e.destination_size;
     }
+
+abbrev pub told_slots : code.Slots → Slots
+told_slots s = record { number = s.number; reading = s.reading; count = s.count; value = s.value }
 
 abbrev pub verdicts_in_order : Judging → List Verdict
 verdicts_in_order j = j.least ∷ j.version ∷ j.flags ∷ j.variable_size ∷ j.length ∷ j.addresses ∷ j.integrity ∷ []

@@ -1,16 +1,15 @@
 // Messages as they arrive, for C: a feed in storage that the caller lends.
 // Any content of the storage is a feed, and what a call leaves there is the feed that the next one finds.
-ghost use Rattle.std.specs.Prelude.{◌≡◌, ℕ, ◌<◌, ◌^◌, ◌-◌, List};
+ghost use Rattle.std.specs.Prelude.{◌≡◌, ℕ, ◌-◌, List};
 ghost use Rattle.envelope.specs.Layout.{field_size};
 ghost use Rattle.envelope.specs.Places.{place_for};
 ghost use Rattle.envelope.specs.Told.{told_fault, told_refusal};
 ghost use Rattle.feed.specs.Places.{in_room};
 ghost use Rattle.feed.specs.Told.{told_standing, state_of, told_found};
 ghost use Rattle.exports.specs.Feeds.{standing_number, refusal_for, standing_for, state_numbers, state_for, found_slots, fields_found, lent, TakesForC, EndsForC, RestartsForC, HoldsForC};
-ghost use Rattle.exports.specs.Helpers.{NumbersAFault};
-ghost use Rattle.exports.specs.Word.{word};
+ghost use Rattle.exports.specs.Helpers.{NumbersAFault, told_slots};
 
-use crate::answers::{answer, refused_answer};
+use crate::answers::Slots;
 use crate::envelopes::{FIELDS, numbers_of};
 use envelope::{Envelope, Fault, Numbers};
 use feed::{Beside, Feed, Message, Refusal, Standing, advance, close, held};
@@ -29,7 +28,7 @@ pub fn morlewen_feed_take(
     let step = advance(kept, beside_in(numbers), piece);
     *numbers = beside_numbers(step.beside);
     put_found(step.found, fields);
-    found_word(step.found, step.used)
+    found_slots(step.found, step.used).word()
 }
 
 pub fn morlewen_feed_end(numbers: &mut [u64; NUMBERS]) -> u64
@@ -37,7 +36,7 @@ pub fn morlewen_feed_end(numbers: &mut [u64; NUMBERS]) -> u64
 {
     let step = close(beside_in(numbers));
     *numbers = beside_numbers(step.beside);
-    found_word(step.found, 0)
+    found_slots(step.found, 0).word()
 }
 
 pub fn morlewen_feed_restart(kept: &mut [u8; Feed::ROOM], numbers: &mut [u64; NUMBERS])
@@ -50,7 +49,7 @@ pub fn morlewen_feed_restart(kept: &mut [u8; Feed::ROOM], numbers: &mut [u64; NU
 pub fn morlewen_feed_message(kept: &[u8; Feed::ROOM], numbers: &[u64; NUMBERS]) -> u64
     ensures { HoldsForC kept.now numbers.now result }
 {
-    answer(0, 0, 0, held(kept, beside_in(numbers)).len())
+    Slots::done(0, held(kept, beside_in(numbers)).len()).word()
 }
 
 // What stands beside the bytes kept, by its two numbers.
@@ -150,14 +149,13 @@ fn standing_number(standing: Standing) -> u64
     }
 }
 
-fn found_word(found: Result<Option<Message>, Refusal>, used: usize) -> u64
-    requires { (used < 2 ^ 16) × ((found_slots (told_found found) used).value < 2 ^ 32) }
-    ensures { result ≡ word (found_slots (told_found found) used) }
+fn found_slots(found: Result<Option<Message>, Refusal>, used: usize) -> Slots
+    ensures { told_slots result ≡ found_slots (told_found found) used }
 {
     match found {
-        Ok(None) => answer(0, 0, used, 0),
-        Ok(Some(message)) => answer(0, 0, used, message.size),
-        Err(refusal) => refused_answer(Numbers::from(refusal), used),
+        Ok(None) => Slots::done(used, 0),
+        Ok(Some(message)) => Slots::done(used, message.size),
+        Err(refusal) => Slots::refused(Numbers::from(refusal), used),
     }
 }
 
