@@ -1,4 +1,5 @@
 // The answer word: a refusal's number, reading's number, a count and a value in one number of 64 bits.
+// The numbers for kinds, here and in the other modules, are the C interface (include/morlewen.h).
 ghost use Rattle.std.specs.Prelude.{◌≡◌};
 ghost use Rattle.envelope.specs.Refusals.{told_numbers};
 ghost use Rattle.exports.specs.Helpers.{told_slots};

@@ -86,6 +86,7 @@ fn read_slots(reading: Result<Envelope, Refusal>) -> Slots
     }
 }
 
+// This, `put_found` and `put_message` stay three: an `Option<Envelope>` made for one form takes a match as long as each.
 fn put_fields(reading: Result<Envelope, Refusal>, fields: &mut [u64; FIELDS])
     ensures { fields.new ≡ fields_after (told reading) fields.old }
 {
@@ -103,11 +104,11 @@ pub(crate) fn numbers_of(accepted: Envelope) -> [u64; FIELDS]
     let kind = kind_of(integrity);
     let held = held_by(integrity);
     [
-        accepted.header.message_type as u64,
-        accepted.header.version as u64,
-        accepted.header.flags as u64,
-        accepted.header.number as u64,
-        accepted.header.time as u64,
+        u64::from(accepted.header.message_type),
+        u64::from(accepted.header.version),
+        u64::from(accepted.header.flags),
+        u64::from(accepted.header.number),
+        u64::from(accepted.header.time),
         ends.addressed,
         ends.ttl,
         ends.qos,
@@ -162,18 +163,15 @@ fn held_by(integrity: Integrity) -> u64
 {
     match integrity {
         Integrity::None => 0,
-        Integrity::Crc(held) => held as u64,
-        Integrity::Application(held) => held as u64,
+        Integrity::Crc(held) => u64::from(held),
+        Integrity::Application(held) => u64::from(held),
     }
 }
 
 fn routing_of(addressed: u8, ttl: u16, qos: u16) -> Option<Routing>
     ensures { told_routing result ≡ routing_for addressed ttl qos }
 {
-    if addressed == 0 {
-        return None;
-    }
-    Some(Routing { ttl, qos })
+    (addressed != 0).then_some(Routing { ttl, qos })
 }
 
 fn write_slots(writing: Result<usize, WriteFault>) -> Slots

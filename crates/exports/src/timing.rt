@@ -35,10 +35,7 @@ pub fn morlewen_sequence(old: u32, new: u32) -> u64
 fn addressing_of(addressed: u8, ttl: u16) -> Option<Addressing>
     ensures { told_addressing result ≡ addressing_for addressed ttl }
 {
-    if addressed == 0 {
-        return None;
-    }
-    Some(Addressing {
+    (addressed != 0).then_some(Addressing {
         ttl,
         qos: 0,
         source: nowhere(),
