@@ -2,7 +2,7 @@
 -- That the two readers agree is a law of the crate `judge`; here it is only read in slots.
 use mathlib.Core.List.{List}
 use mathlib.Core.Path.{◌≡◌, refl, sym, ap, subst, ◌∙◌}
-use Prim.Native.Nat.{ℕ, ◌<◌, ◌^◌}
+use Prim.Native.Nat.{ℕ}
 use native.Mathlib.Omega.{arith}
 use Rattle.envelope.proofs.PlaceLaws.{number_few, places_within}
 use Rattle.envelope.specs.Fields.{Answer, accepted, refused}
@@ -14,7 +14,7 @@ use Rattle.judge.proofs.AgreementLaws.{readers_agree}
 use Rattle.exports.proofs.FitsLaws.{word_tells_its_slots}
 use Rattle.exports.specs.Envelopes.{read_slots}
 use Rattle.exports.specs.Verdicts.{lowest_slots, judge_slots, JudgeForCTellsReading}
-use Rattle.exports.specs.Word.{Slots, unword, Fits}
+use Rattle.exports.specs.Word.{Slots, unword, Fits, FitsWord}
 
 -- the same refusal in the slots of both
 record BothTell (a : Answer) : Type 0 where
@@ -41,9 +41,10 @@ both_tell bytes (refused r) bs e =
       place = refl;
     }
 
-pub lowest_fits : (bytes : List ℕ) (l : LowestAnswer) → Bytes bytes → l ≡ lowest_of (broken_rules (judging bytes)) → (lowest_slots l).value < 2 ^ 32
+pub lowest_fits : (bytes : List ℕ) (l : LowestAnswer) → Bytes bytes → l ≡ lowest_of (broken_rules (judging bytes)) → FitsWord (lowest_slots l)
 lowest_fits bytes l bs e =
-    subst (λ (x : LowestAnswer). (lowest_slots x).value < 2 ^ 32) (sym (e ∙ (readers_agree bytes).1)) (both_tell bytes (reading bytes) bs refl).judges.value
+    let fits = (both_tell bytes (reading bytes) bs refl).judges in
+    subst (λ (x : LowestAnswer). FitsWord (lowest_slots x)) (sym (e ∙ (readers_agree bytes).1)) (fits.count, fits.value)
 
 pub judge_for_c_tells_reading : JudgeForCTellsReading
 judge_for_c_tells_reading bytes fields after answer judgement verdicts bs reads judges =

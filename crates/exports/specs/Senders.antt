@@ -41,13 +41,16 @@ beside_numbers b = b.resends ∷ b.count ∷ flight_commid b.slot ∷ flight_num
 
 -- ---- an event: the count tells what was done, and the value the COMMID that goes out next, where one does
 
+-- the count where nothing goes out next, or else that with the next
+abbrev pub next_slots : (alone before : ℕ) → Option ℕ → Slots
+next_slots alone before none = slots 0 0 alone 0
+next_slots alone before (some x) = slots 0 0 before x
+
 abbrev pub settled_slots : Option ℕ → Slots
-settled_slots none = slots 0 0 3 0
-settled_slots (some x) = slots 0 0 4 x
+settled_slots o = next_slots 3 4 o
 
 abbrev pub failed_slots : Option ℕ → Slots
-failed_slots none = slots 0 0 6 0
-failed_slots (some x) = slots 0 0 7 x
+failed_slots o = next_slots 6 7 o
 
 abbrev pub reply_slots : Reply → Slots
 reply_slots sent = slots 0 0 1 0

@@ -47,6 +47,10 @@ pub record Fits (s : Slots) : Type 0 where
   pub count : s.count < 2 ^ 16
   pub value : s.value < 2 ^ 32
 
+-- what of them fits in any case is a byte by its type
+abbrev pub FitsWord : Slots → Type 0
+FitsWord s = (s.count < 2 ^ 16) × (s.value < 2 ^ 32)
+
 abbrev pub unword : ℕ → Slots
 unword w = slots (w % 256) (w / 256 % 256) (w / 65536 % 65536) (w / 4294967296)
 

@@ -1,30 +1,53 @@
 // The answer word: a refusal's number, reading's number, a count and a value in one number of 64 bits.
-ghost use Rattle.std.specs.Prelude.{◌≡◌, ◌<◌, ◌^◌};
+// The numbers for kinds, here and in the other modules, are the C interface (include/morlewen.h).
+ghost use Rattle.std.specs.Prelude.{◌≡◌};
 ghost use Rattle.envelope.specs.Refusals.{told_numbers};
-ghost use Rattle.envelope.specs.Told.{told_refusal};
-ghost use Rattle.exports.specs.Word.{slots, word, reading_slots, numbers_slots};
+ghost use Rattle.exports.specs.Helpers.{told_slots};
+ghost use Rattle.exports.specs.Word.{slots, word, numbers_slots, FitsWord};
 
-use envelope::{Numbers, Refusal};
+use envelope::Numbers;
 
-pub(crate) fn answer(number: u8, reading: u8, count: usize, value: usize) -> u64
-    requires { (count < 2 ^ 16) × (value < 2 ^ 32) }
-    ensures { result ≡ word (slots number reading count value) }
-{
-    (number as u64) + (reading as u64) * 256 + (count as u64) * 65536 + (value as u64) * 4294967296
+// An answer before it is a word.
+#[derive(Clone, Copy)]
+pub(crate) struct Slots {
+    pub(crate) number: u8,
+    pub(crate) reading: u8,
+    pub(crate) count: usize,
+    pub(crate) value: usize,
 }
 
-// A refusal by its numbers, with its place in the value slot, and a count.
-pub(crate) fn refused_answer(numbers: Numbers, count: usize) -> u64
-    requires { (count < 2 ^ 16) × (numbers.place < 2 ^ 32) }
-    ensures { result ≡ word (numbers_slots (told_numbers numbers) count) }
-{
-    answer(numbers.number, numbers.reading, count, numbers.place)
-}
+impl Slots {
+    // Done, with a count and a value.
+    pub(crate) fn done(count: usize, value: usize) -> Slots
+        ensures { told_slots result ≡ slots 0 0 count value }
+    {
+        Slots {
+            number: 0,
+            reading: 0,
+            count,
+            value,
+        }
+    }
 
-// The refusal of reading itself.
-pub(crate) fn reading_answer(refusal: Refusal) -> u64
-    requires { refusal.place < 2 ^ 32 }
-    ensures { result ≡ word (reading_slots (told_refusal refusal)) }
-{
-    refused_answer(Numbers::from(refusal), 0)
+    // A refusal by its numbers, with its place in the value slot, and a count.
+    pub(crate) fn refused(numbers: Numbers, count: usize) -> Slots
+        ensures { told_slots result ≡ numbers_slots (told_numbers numbers) count }
+    {
+        Slots {
+            number: numbers.number,
+            reading: numbers.reading,
+            count,
+            value: numbers.place,
+        }
+    }
+
+    pub(crate) fn word(self) -> u64
+        requires { FitsWord (told_slots self) }
+        ensures { result ≡ word (told_slots self) }
+    {
+        u64::from(self.number)
+            + u64::from(self.reading) * 256
+            + (self.count as u64) * 65536
+            + (self.value as u64) * 4294967296
+    }
 }

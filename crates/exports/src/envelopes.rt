@@ -1,16 +1,15 @@
 // Messages, for C: reading into sixteen numbers, writing, and writing again.
-ghost use Rattle.std.specs.Prelude.{◌≡◌, ◌<◌, ◌^◌};
+ghost use Rattle.std.specs.Prelude.{◌≡◌};
 ghost use Rattle.envelope.specs.Rewriting.{told_rewriting};
 ghost use Rattle.envelope.specs.Told.{told_addressing, told_integrity, told_envelope, told};
 ghost use Rattle.envelope.specs.Writing.{told_routing, told_writing};
 ghost use Rattle.exports.specs.Envelopes.{end_numbers, kind_number, held_number, field_numbers, read_slots, fields_after, ReadsForC, routing_for, write_slots, given_for_c, WritesForC, rewrite_slots, RewritesForC};
-ghost use Rattle.exports.specs.Helpers.{told_ends};
-ghost use Rattle.exports.specs.Word.{word};
+ghost use Rattle.exports.specs.Helpers.{told_ends, told_slots};
 
-use crate::answers::{answer, reading_answer};
+use crate::answers::Slots;
 use envelope::{
-    Addressing, Envelope, Given, Header, Integrity, Refusal, RewriteFault, Routing, WriteFault,
-    read, rewrite, write,
+    Addressing, Envelope, Given, Header, Integrity, Numbers, Refusal, RewriteFault, Routing,
+    WriteFault, read, rewrite, write,
 };
 
 // How many numbers the fields of a message are.
@@ -33,7 +32,7 @@ pub fn morlewen_read(bytes: &[u8], fields: &mut [u64; FIELDS]) -> u64
 {
     let reading = read(bytes);
     put_fields(reading, fields);
-    read_word(reading)
+    read_slots(reading).word()
 }
 
 // A field for each argument: the C interface has no `Given`.
@@ -69,25 +68,25 @@ pub fn morlewen_write(
         body,
         application: integrity,
     };
-    write_word(write(given, buffer))
+    write_slots(write(given, buffer)).word()
 }
 
 pub fn morlewen_rewrite(bytes: &[u8], buffer: &mut [u8]) -> u64
     ensures { RewritesForC bytes.now buffer.old result buffer.new }
 {
-    rewrite_word(rewrite(bytes, buffer))
+    rewrite_slots(rewrite(bytes, buffer)).word()
 }
 
-fn read_word(reading: Result<Envelope, Refusal>) -> u64
-    requires { (read_slots (told reading)).value < 2 ^ 32 }
-    ensures { result ≡ word (read_slots (told reading)) }
+fn read_slots(reading: Result<Envelope, Refusal>) -> Slots
+    ensures { told_slots result ≡ read_slots (told reading) }
 {
     match reading {
-        Ok(_) => answer(0, 0, 0, 0),
-        Err(refusal) => reading_answer(refusal),
+        Ok(_) => Slots::done(0, 0),
+        Err(refusal) => Slots::refused(Numbers::from(refusal), 0),
     }
 }
 
+// This, `put_found` and `put_message` stay three: an `Option<Envelope>` made for one form takes a match as long as each.
 fn put_fields(reading: Result<Envelope, Refusal>, fields: &mut [u64; FIELDS])
     ensures { fields.new ≡ fields_after (told reading) fields.old }
 {
@@ -105,11 +104,11 @@ pub(crate) fn numbers_of(accepted: Envelope) -> [u64; FIELDS]
     let kind = kind_of(integrity);
     let held = held_by(integrity);
     [
-        accepted.header.message_type as u64,
-        accepted.header.version as u64,
-        accepted.header.flags as u64,
-        accepted.header.number as u64,
-        accepted.header.time as u64,
+        u64::from(accepted.header.message_type),
+        u64::from(accepted.header.version),
+        u64::from(accepted.header.flags),
+        u64::from(accepted.header.number),
+        u64::from(accepted.header.time),
         ends.addressed,
         ends.ttl,
         ends.qos,
@@ -164,37 +163,42 @@ fn held_by(integrity: Integrity) -> u64
 {
     match integrity {
         Integrity::None => 0,
-        Integrity::Crc(held) => held as u64,
-        Integrity::Application(held) => held as u64,
+        Integrity::Crc(held) => u64::from(held),
+        Integrity::Application(held) => u64::from(held),
     }
 }
 
 fn routing_of(addressed: u8, ttl: u16, qos: u16) -> Option<Routing>
     ensures { told_routing result ≡ routing_for addressed ttl qos }
 {
-    if addressed == 0 {
-        return None;
-    }
-    Some(Routing { ttl, qos })
+    (addressed != 0).then_some(Routing { ttl, qos })
 }
 
-fn write_word(writing: Result<usize, WriteFault>) -> u64
-    requires { (write_slots (told_writing writing)).value < 2 ^ 32 }
-    ensures { result ≡ word (write_slots (told_writing writing)) }
+fn write_slots(writing: Result<usize, WriteFault>) -> Slots
+    ensures { told_slots result ≡ write_slots (told_writing writing) }
 {
     match writing {
-        Ok(size) => answer(0, 0, 0, size),
-        Err(fault) => answer(u8::from(fault), 0, 0, 0),
+        Ok(size) => Slots::done(0, size),
+        Err(fault) => Slots {
+            number: u8::from(fault),
+            reading: 0,
+            count: 0,
+            value: 0,
+        },
     }
 }
 
-fn rewrite_word(rewriting: Result<usize, RewriteFault>) -> u64
-    requires { (rewrite_slots (told_rewriting rewriting)).value < 2 ^ 32 }
-    ensures { result ≡ word (rewrite_slots (told_rewriting rewriting)) }
+fn rewrite_slots(rewriting: Result<usize, RewriteFault>) -> Slots
+    ensures { told_slots result ≡ rewrite_slots (told_rewriting rewriting) }
 {
     match rewriting {
-        Ok(size) => answer(0, 0, 0, size),
-        Err(RewriteFault::Refused(refusal)) => reading_answer(refusal),
-        Err(RewriteFault::NoRoom) => answer(u8::from(WriteFault::NoRoom), 0, 0, 0),
+        Ok(size) => Slots::done(0, size),
+        Err(RewriteFault::Refused(refusal)) => Slots::refused(Numbers::from(refusal), 0),
+        Err(RewriteFault::NoRoom) => Slots {
+            number: u8::from(WriteFault::NoRoom),
+            reading: 0,
+            count: 0,
+            value: 0,
+        },
     }
 }

@@ -1,17 +1,17 @@
 // Messages as they arrive, for C: a feed in storage that the caller lends.
 // Any content of the storage is a feed, and what a call leaves there is the feed that the next one finds.
-ghost use Rattle.std.specs.Prelude.{◌≡◌, ℕ, ◌<◌, ◌^◌, ◌-◌, List};
+ghost use Rattle.std.specs.Prelude.{◌≡◌, ℕ, ◌-◌, List};
 ghost use Rattle.envelope.specs.Layout.{field_size};
 ghost use Rattle.envelope.specs.Places.{place_for};
 ghost use Rattle.envelope.specs.Told.{told_fault, told_refusal};
 ghost use Rattle.feed.specs.Places.{in_room};
 ghost use Rattle.feed.specs.Told.{told_standing, state_of, told_found};
 ghost use Rattle.exports.specs.Feeds.{standing_number, refusal_for, standing_for, state_numbers, state_for, found_slots, fields_found, lent, TakesForC, EndsForC, RestartsForC, HoldsForC};
-ghost use Rattle.exports.specs.Word.{word};
+ghost use Rattle.exports.specs.Helpers.{NumbersAFault, told_slots};
 
-use crate::answers::{answer, refused_answer};
+use crate::answers::Slots;
 use crate::envelopes::{FIELDS, numbers_of};
-use envelope::{Envelope, Numbers};
+use envelope::{Envelope, Fault, Numbers};
 use feed::{Beside, Feed, Message, Refusal, Standing, advance, close, held};
 
 // How many numbers stand beside the bytes that a feed keeps.
@@ -28,7 +28,7 @@ pub fn morlewen_feed_take(
     let step = advance(kept, beside_in(numbers), piece);
     *numbers = beside_numbers(step.beside);
     put_found(step.found, fields);
-    found_word(step.found, step.used)
+    found_slots(step.found, step.used).word()
 }
 
 pub fn morlewen_feed_end(numbers: &mut [u64; NUMBERS]) -> u64
@@ -36,7 +36,7 @@ pub fn morlewen_feed_end(numbers: &mut [u64; NUMBERS]) -> u64
 {
     let step = close(beside_in(numbers));
     *numbers = beside_numbers(step.beside);
-    found_word(step.found, 0)
+    found_slots(step.found, 0).word()
 }
 
 pub fn morlewen_feed_restart(kept: &mut [u8; Feed::ROOM], numbers: &mut [u64; NUMBERS])
@@ -49,7 +49,7 @@ pub fn morlewen_feed_restart(kept: &mut [u8; Feed::ROOM], numbers: &mut [u64; NU
 pub fn morlewen_feed_message(kept: &[u8; Feed::ROOM], numbers: &[u64; NUMBERS]) -> u64
     ensures { HoldsForC kept.now numbers.now result }
 {
-    answer(0, 0, 0, held(kept, beside_in(numbers)).len())
+    Slots::done(0, held(kept, beside_in(numbers)).len()).word()
 }
 
 // What stands beside the bytes kept, by its two numbers.
@@ -74,21 +74,38 @@ fn standing_of(number: u64, count: usize) -> Standing
 {
     match number {
         0 => Standing::Inside,
-        1..=7 => Standing::Refused(Refusal::MessageRefused(refusal_of(number, count))),
         51 => Standing::Refused(Refusal::TooLong),
         52 => Standing::Refused(Refusal::Cut),
-        _ => Standing::Whole,
+        _ => match fault_of(number) {
+            Some(fault) => Standing::Refused(Refusal::MessageRefused(refusal_of(fault, count))),
+            None => Standing::Whole,
+        },
     }
 }
 
-// The refusal of reading that has this number, where so many bytes are in: the place is not stored.
-fn refusal_of(number: u64, count: usize) -> envelope::Refusal
-    requires { (0 < number) × (number < 8) }
-    ensures { told_refusal result ≡ refusal_for number count }
+// The rule of reading that has this number, if one has.
+fn fault_of(number: u64) -> Option<Fault>
+    ensures { NumbersAFault number result }
+{
+    match number {
+        1 => Some(Fault::TooShort),
+        2 => Some(Fault::WrongVersion),
+        3 => Some(Fault::BadFlags),
+        4 => Some(Fault::BadVariableSize),
+        5 => Some(Fault::WrongLength),
+        6 => Some(Fault::BadAddresses),
+        7 => Some(Fault::BadIntegrity),
+        _ => None,
+    }
+}
+
+// The refusal by this rule, where so many bytes are in: the place is not stored.
+fn refusal_of(fault: Fault, count: usize) -> envelope::Refusal
+    ensures { told_refusal result ≡ refusal_for (told_fault fault) count }
 {
     envelope::Refusal {
-        fault: fault_of(number),
-        place: place_of(number, in_room(count)),
+        fault,
+        place: place_of(fault, in_room(count)),
     }
 }
 
@@ -99,19 +116,19 @@ fn in_room(count: usize) -> usize
     count.min(Feed::ROOM)
 }
 
-// The place of a refusal with this number, in a message of so many bytes.
-fn place_of(number: u64, size: usize) -> usize
-    requires { (0 < number) × (number < 8) }
-    ensures { result ≡ place_for number size }
+// The place of a refusal by this rule, in a message of so many bytes.
+#[tactic(auto, unfolding(envelope::specs::Places::place_for))]
+fn place_of(fault: Fault, size: usize) -> usize
+    ensures { result ≡ place_for (told_fault fault) size }
 {
-    match number {
-        1 => size,
-        2 => Envelope::VERSION_PLACE,
-        3 => Envelope::FLAGS_PLACE,
-        4 => Envelope::VARIABLE_SIZE_PLACE,
-        5 => Envelope::DATA_LENGTH_PLACE,
-        6 => Envelope::ADDRESSES_PLACE,
-        _ => before_field(size),
+    match fault {
+        Fault::TooShort => size,
+        Fault::WrongVersion => Envelope::VERSION_PLACE,
+        Fault::BadFlags => Envelope::FLAGS_PLACE,
+        Fault::BadVariableSize => Envelope::VARIABLE_SIZE_PLACE,
+        Fault::WrongLength => Envelope::DATA_LENGTH_PLACE,
+        Fault::BadAddresses => Envelope::ADDRESSES_PLACE,
+        Fault::BadIntegrity => before_field(size),
     }
 }
 
@@ -120,22 +137,6 @@ fn before_field(size: usize) -> usize
     ensures { result ≡ size - field_size }
 {
     size.saturating_sub(Envelope::FIELD_SIZE)
-}
-
-// The rule of reading that has this number.
-fn fault_of(number: u64) -> envelope::Fault
-    requires { (0 < number) × (number < 8) }
-    ensures { told_fault result ≡ number }
-{
-    match number {
-        1 => envelope::Fault::TooShort,
-        2 => envelope::Fault::WrongVersion,
-        3 => envelope::Fault::BadFlags,
-        4 => envelope::Fault::BadVariableSize,
-        5 => envelope::Fault::WrongLength,
-        6 => envelope::Fault::BadAddresses,
-        _ => envelope::Fault::BadIntegrity,
-    }
 }
 
 fn standing_number(standing: Standing) -> u64
@@ -148,14 +149,13 @@ fn standing_number(standing: Standing) -> u64
     }
 }
 
-fn found_word(found: Result<Option<Message>, Refusal>, used: usize) -> u64
-    requires { (used < 2 ^ 16) × ((found_slots (told_found found) used).value < 2 ^ 32) }
-    ensures { result ≡ word (found_slots (told_found found) used) }
+fn found_slots(found: Result<Option<Message>, Refusal>, used: usize) -> Slots
+    ensures { told_slots result ≡ found_slots (told_found found) used }
 {
     match found {
-        Ok(None) => answer(0, 0, used, 0),
-        Ok(Some(message)) => answer(0, 0, used, message.size),
-        Err(refusal) => refused_answer(Numbers::from(refusal), used),
+        Ok(None) => Slots::done(used, 0),
+        Ok(Some(message)) => Slots::done(used, message.size),
+        Err(refusal) => Slots::refused(Numbers::from(refusal), used),
     }
 }
 

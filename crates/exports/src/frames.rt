@@ -1,12 +1,12 @@
 // Class D frames, for C: unwrapped into numbers, and written into a lent buffer.
-ghost use Rattle.std.specs.Prelude.{◌≡◌, ◌<◌, ◌^◌};
+ghost use Rattle.std.specs.Prelude.{◌≡◌};
 ghost use Rattle.frame.specs.Capturing.{MeasuresFirst};
 ghost use Rattle.frame.specs.Unwrapping.{told_unwrapped};
 ghost use Rattle.frame.specs.Wrapping.{told_wrapped};
 ghost use Rattle.exports.specs.Frames.{unwrap_slots, commids_after, message_fields, lent_for, UnwrapsForC, wrap_slots, WrapsForC, AcknowledgesForC};
-ghost use Rattle.exports.specs.Word.{word};
+ghost use Rattle.exports.specs.Helpers.{told_slots};
 
-use crate::answers::{answer, refused_answer};
+use crate::answers::Slots;
 use crate::envelopes::{FIELDS, numbers_of};
 use envelope::Numbers;
 use frame::{FrameType, Refusal, Unwrapped, acknowledge, first, unwrap, wrap};
@@ -24,19 +24,19 @@ pub fn morlewen_unwrap(
     let unwrapped = unwrap(bytes);
     put_commids(unwrapped, commids);
     put_message(unwrapped, fields);
-    unwrap_word(unwrapped)
+    unwrap_slots(unwrapped).word()
 }
 
 pub fn morlewen_wrap(message: &[u8], commid: u32, buffer: &mut [u8]) -> u64
     ensures { WrapsForC message.now commid buffer.old result buffer.new }
 {
-    wrap_word(wrap(message, commid, buffer))
+    wrap_slots(wrap(message, commid, buffer)).word()
 }
 
 pub fn morlewen_acknowledge(commid: u32, acknowledged: u32, buffer: &mut [u8]) -> u64
     ensures { AcknowledgesForC commid acknowledged buffer.old result buffer.new }
 {
-    wrap_word(acknowledge(commid, acknowledged, buffer))
+    wrap_slots(acknowledge(commid, acknowledged, buffer)).word()
 }
 
 pub fn morlewen_frame_first(capture: &[u8]) -> usize
@@ -67,35 +67,26 @@ fn put_message(unwrapped: Result<Unwrapped, Refusal>, fields: &mut [u64; FIELDS]
     }
 }
 
-fn unwrap_word(unwrapped: Result<Unwrapped, Refusal>) -> u64
-    requires { (unwrap_slots (told_unwrapped unwrapped)).value < 2 ^ 32 }
-    ensures { result ≡ word (unwrap_slots (told_unwrapped unwrapped)) }
+fn unwrap_slots(unwrapped: Result<Unwrapped, Refusal>) -> Slots
+    ensures { told_slots result ≡ unwrap_slots (told_unwrapped unwrapped) }
 {
     match unwrapped {
         Ok(Unwrapped::Data(data)) => {
-            answer(
-                0,
-                0,
-                usize::from(u8::from(FrameType::Data)),
-                data.message.size,
-            )
+            Slots::done(usize::from(u8::from(FrameType::Data)), data.message.size)
         }
-        Ok(Unwrapped::Acknowledged(_)) => answer(
-            0,
-            0,
+        Ok(Unwrapped::Acknowledged(_)) => Slots::done(
             usize::from(u8::from(FrameType::Acknowledgment)),
             0,
         ),
-        Err(refusal) => refused_answer(Numbers::from(refusal), 0),
+        Err(refusal) => Slots::refused(Numbers::from(refusal), 0),
     }
 }
 
-fn wrap_word(wrapped: Result<usize, Refusal>) -> u64
-    requires { (wrap_slots (told_wrapped wrapped)).value < 2 ^ 32 }
-    ensures { result ≡ word (wrap_slots (told_wrapped wrapped)) }
+fn wrap_slots(wrapped: Result<usize, Refusal>) -> Slots
+    ensures { told_slots result ≡ wrap_slots (told_wrapped wrapped) }
 {
     match wrapped {
-        Ok(size) => answer(0, 0, 0, size),
-        Err(refusal) => refused_answer(Numbers::from(refusal), 0),
+        Ok(size) => Slots::done(0, size),
+        Err(refusal) => Slots::refused(Numbers::from(refusal), 0),
     }
 }

@@ -1,5 +1,5 @@
 // Golden files, for C. The file is only read.
-ghost use Rattle.std.specs.Prelude.{◌≡◌, ◌<◌, ◌^◌};
+ghost use Rattle.std.specs.Prelude.{◌≡◌};
 ghost use Rattle.golden.specs.Checking.{told_checking};
 ghost use Rattle.golden.specs.Comparing.{told_comparison};
 ghost use Rattle.golden.specs.Finding.{told_finding};
@@ -9,9 +9,9 @@ ghost use Rattle.golden.specs.Ordering.{told_ordering};
 ghost use Rattle.golden.specs.Retiring.{told_retiring};
 ghost use Rattle.golden.specs.Stepping.{told_reached};
 ghost use Rattle.exports.specs.Goldens.{name_for, count_slots, CountsForC, CountsRetiredForC, check_slots, ChecksForC, find_slots, FindsForC, HalvesForC, order_slots, OrdersForC, line_slots, line_after, EntersForC, step_slots, part_after, StepsForC, compare_slots, ComparesForC, make_slots, MakesForC, retire_slots, RetiresForC};
-ghost use Rattle.exports.specs.Word.{word};
+ghost use Rattle.exports.specs.Helpers.{told_slots};
 
-use crate::answers::{answer, refused_answer};
+use crate::answers::Slots;
 use envelope::Numbers;
 use golden::{
     Entry, Found, Name, Refusal, RefusedAfter, RefusedAt, Stored, ascending, check, compare, count,
@@ -26,19 +26,19 @@ pub const PART: usize = 2;
 pub fn morlewen_records(file: &[u8]) -> u64
     ensures { CountsForC file.now result }
 {
-    count_word(count(file))
+    count_slots(count(file)).word()
 }
 
 pub fn morlewen_retired_records(file: &[u8]) -> u64
     ensures { CountsRetiredForC file.now result }
 {
-    count_word(count_retired(file))
+    count_slots(count_retired(file)).word()
 }
 
 pub fn morlewen_check(file: &[u8]) -> u64
     ensures { ChecksForC file.now result }
 {
-    check_word(check(file))
+    check_slots(check(file)).word()
 }
 
 pub fn morlewen_find(file: &[u8], message_type: u16, number: u32) -> u64
@@ -48,7 +48,7 @@ pub fn morlewen_find(file: &[u8], message_type: u16, number: u32) -> u64
         message_type,
         number,
     };
-    find_word(find(file, name))
+    find_slots(find(file, name)).word()
 }
 
 pub fn morlewen_find_by_halving(file: &[u8], message_type: u16, number: u32) -> u64
@@ -58,13 +58,13 @@ pub fn morlewen_find_by_halving(file: &[u8], message_type: u16, number: u32) -> 
         message_type,
         number,
     };
-    find_word(find_by_halving(file, name))
+    find_slots(find_by_halving(file, name)).word()
 }
 
 pub fn morlewen_ascending(file: &[u8]) -> u64
     ensures { OrdersForC file.now result }
 {
-    order_word(ascending(file))
+    order_slots(ascending(file)).word()
 }
 
 pub fn morlewen_line(file: &[u8], record: usize, line: &mut [u64; LINE]) -> u64
@@ -72,7 +72,7 @@ pub fn morlewen_line(file: &[u8], record: usize, line: &mut [u64; LINE]) -> u64
 {
     let found = entry_at(file, record);
     put_line(found, line);
-    line_word(found)
+    line_slots(found).word()
 }
 
 pub fn morlewen_step(file: &[u8], record: usize, part: &mut [u64; PART]) -> u64
@@ -81,75 +81,75 @@ pub fn morlewen_step(file: &[u8], record: usize, part: &mut [u64; PART]) -> u64
     let stepping = step(file, record);
     let reached = stepping.answer;
     put_part(reached, part);
-    step_word(reached, stepping.next - record)
+    step_slots(reached, stepping.next - record).word()
 }
 
 pub fn morlewen_compare(file: &[u8], record: usize, radio: &[u8], places: &mut [u32]) -> u64
     ensures { ComparesForC file.now «record» radio.now places.old result places.new }
 {
-    compare_word(compare(file, record, radio, places))
+    compare_slots(compare(file, record, radio, places)).word()
 }
 
 pub fn morlewen_make(message: &[u8], buffer: &mut [u8]) -> u64
     ensures { MakesForC message.now buffer.old result buffer.new }
 {
-    make_word(make(message, buffer))
+    made_slots(make(message, buffer)).word()
 }
 
 pub fn morlewen_retire(file: &[u8], record: usize, buffer: &mut [u8]) -> u64
     ensures { RetiresForC file.now «record» buffer.old result buffer.new }
 {
-    retire_word(retire(file, record, buffer))
+    made_slots(retire(file, record, buffer)).word()
 }
 
-fn count_word(counting: Result<usize, Refusal>) -> u64
-    requires { ((count_slots (told_counting counting)).count < 2 ^ 16) × ((count_slots (told_counting counting)).value < 2 ^ 32) }
-    ensures { result ≡ word (count_slots (told_counting counting)) }
+fn count_slots(counting: Result<usize, Refusal>) -> Slots
+    ensures { told_slots result ≡ count_slots (told_counting counting) }
 {
     match counting {
-        Ok(records) => answer(0, 0, records, 0),
-        Err(refusal) => refused_answer(Numbers::from(refusal), 0),
+        Ok(records) => Slots::done(records, 0),
+        Err(refusal) => Slots::refused(Numbers::from(refusal), 0),
     }
 }
 
-fn check_word(checking: Result<usize, RefusedAt>) -> u64
-    requires { ((check_slots (told_checking checking)).count < 2 ^ 16) × ((check_slots (told_checking checking)).value < 2 ^ 32) }
-    ensures { result ≡ word (check_slots (told_checking checking)) }
+fn check_slots(checking: Result<usize, RefusedAt>) -> Slots
+    ensures { told_slots result ≡ check_slots (told_checking checking) }
 {
     match checking {
-        Ok(records) => answer(0, 0, records, 0),
-        Err(RefusedAt { record, refusal }) => refused_answer(Numbers::from(refusal), record),
+        Ok(records) => Slots::done(records, 0),
+        Err(RefusedAt { record, refusal }) => Slots::refused(Numbers::from(refusal), record),
     }
 }
 
-fn find_word(finding: Result<Found, RefusedAfter>) -> u64
-    requires { ((find_slots (told_finding finding)).count < 2 ^ 16) × ((find_slots (told_finding finding)).value < 2 ^ 32) }
-    ensures { result ≡ word (find_slots (told_finding finding)) }
+fn find_slots(finding: Result<Found, RefusedAfter>) -> Slots
+    ensures { told_slots result ≡ find_slots (told_finding finding) }
 {
     match finding {
-        Ok(Found { record, opened }) => answer(0, 0, opened, record),
-        Err(RefusedAfter { refusal, opened }) => refused_answer(Numbers::from(refusal), opened),
+        Ok(Found { record, opened }) => Slots::done(opened, record),
+        Err(RefusedAfter { refusal, opened }) => Slots::refused(Numbers::from(refusal), opened),
     }
 }
 
-fn order_word(ordering: Result<Option<usize>, RefusedAt>) -> u64
-    requires { ((order_slots (told_ordering ordering)).count < 2 ^ 16) × ((order_slots (told_ordering ordering)).value < 2 ^ 32) }
-    ensures { result ≡ word (order_slots (told_ordering ordering)) }
+fn order_slots(ordering: Result<Option<usize>, RefusedAt>) -> Slots
+    ensures { told_slots result ≡ order_slots (told_ordering ordering) }
 {
     match ordering {
-        Ok(None) => answer(0, 0, 0, 1),
-        Ok(Some(record)) => answer(0, 0, record, 0),
-        Err(RefusedAt { record, refusal }) => refused_answer(Numbers::from(refusal), record),
+        Ok(None) => Slots::done(0, 1),
+        Ok(Some(record)) => Slots::done(record, 0),
+        Err(RefusedAt { record, refusal }) => Slots::refused(Numbers::from(refusal), record),
     }
 }
 
-fn line_word(found: Result<Entry, Refusal>) -> u64
-    requires { (line_slots (told_entry found)).value < 2 ^ 32 }
-    ensures { result ≡ word (line_slots (told_entry found)) }
+fn line_slots(found: Result<Entry, Refusal>) -> Slots
+    ensures { told_slots result ≡ line_slots (told_entry found) }
 {
     match found {
-        Ok(entry) => answer(0, u8::from(entry.retired), 0, 0),
-        Err(refusal) => refused_answer(Numbers::from(refusal), 0),
+        Ok(entry) => Slots {
+            number: 0,
+            reading: u8::from(entry.retired),
+            count: 0,
+            value: 0,
+        },
+        Err(refusal) => Slots::refused(Numbers::from(refusal), 0),
     }
 }
 
@@ -165,14 +165,18 @@ fn put_line(found: Result<Entry, Refusal>, line: &mut [u64; LINE])
     }
 }
 
-fn step_word(reached: Result<Option<Stored>, Refusal>, on: usize) -> u64
-    requires { (on < 2 ^ 16) × ((step_slots (told_reached reached) on).value < 2 ^ 32) }
-    ensures { result ≡ word (step_slots (told_reached reached) on) }
+fn step_slots(reached: Result<Option<Stored>, Refusal>, on: usize) -> Slots
+    ensures { told_slots result ≡ step_slots (told_reached reached) on }
 {
     match reached {
-        Ok(Some(stored)) => answer(0, u8::from(stored.retired), on, stored.part.size),
-        Ok(None) => answer(0, 0, on, 0),
-        Err(refusal) => refused_answer(Numbers::from(refusal), on),
+        Ok(Some(stored)) => Slots {
+            number: 0,
+            reading: u8::from(stored.retired),
+            count: on,
+            value: stored.part.size,
+        },
+        Ok(None) => Slots::done(on, 0),
+        Err(refusal) => Slots::refused(Numbers::from(refusal), on),
     }
 }
 
@@ -184,32 +188,21 @@ fn put_part(reached: Result<Option<Stored>, Refusal>, part: &mut [u64; PART])
     }
 }
 
-fn compare_word(comparison: Result<usize, Refusal>) -> u64
-    requires { (compare_slots (told_comparison comparison)).value < 2 ^ 32 }
-    ensures { result ≡ word (compare_slots (told_comparison comparison)) }
+fn compare_slots(comparison: Result<usize, Refusal>) -> Slots
+    ensures { told_slots result ≡ compare_slots (told_comparison comparison) }
 {
     match comparison {
-        Ok(differing) => answer(0, 0, 0, differing),
-        Err(refusal) => refused_answer(Numbers::from(refusal), 0),
+        Ok(differing) => Slots::done(0, differing),
+        Err(refusal) => Slots::refused(Numbers::from(refusal), 0),
     }
 }
 
-fn make_word(making: Result<(), Refusal>) -> u64
-    requires { (make_slots (told_making making)).value < 2 ^ 32 }
-    ensures { result ≡ word (make_slots (told_making making)) }
+// Making and retiring answer alike.
+fn made_slots(made: Result<(), Refusal>) -> Slots
+    ensures { (told_slots result ≡ make_slots (told_making made)) × (told_slots result ≡ retire_slots (told_retiring made)) }
 {
-    match making {
-        Ok(()) => answer(0, 0, 0, 0),
-        Err(refusal) => refused_answer(Numbers::from(refusal), 0),
-    }
-}
-
-fn retire_word(retiring: Result<(), Refusal>) -> u64
-    requires { (retire_slots (told_retiring retiring)).value < 2 ^ 32 }
-    ensures { result ≡ word (retire_slots (told_retiring retiring)) }
-{
-    match retiring {
-        Ok(()) => answer(0, 0, 0, 0),
-        Err(refusal) => refused_answer(Numbers::from(refusal), 0),
+    match made {
+        Ok(()) => Slots::done(0, 0),
+        Err(refusal) => Slots::refused(Numbers::from(refusal), 0),
     }
 }

@@ -4,7 +4,7 @@ ghost use Rattle.envelope.specs.Qos.{told_joining};
 ghost use Rattle.exports.specs.Envelopes.{SplitsForC, qos_for, join_slots, JoinsForC};
 ghost use Rattle.exports.specs.Word.{word};
 
-use crate::answers::answer;
+use crate::answers::Slots;
 use envelope::qos;
 use envelope::qos::Qos;
 
@@ -46,7 +46,13 @@ fn join_word(joining: Option<u16>) -> u64
     ensures { result ≡ word (join_slots (told_joining joining)) }
 {
     match joining {
-        Some(field) => answer(0, 0, 0, field as usize),
-        None => answer(41, 0, 0, 0),
+        Some(field) => Slots::done(0, usize::from(field)).word(),
+        None => Slots {
+            number: 41,
+            reading: 0,
+            count: 0,
+            value: 0,
+        }
+        .word(),
     }
 }

@@ -3,10 +3,10 @@
 ghost use Rattle.std.specs.Prelude.{◌≡◌};
 ghost use Rattle.sender.specs.Queue.{submit, ack, nak, time_out};
 ghost use Rattle.sender.specs.Told.{told_next, told_answer, told_bench, told_event, told_flight, told_start};
-ghost use Rattle.exports.specs.Senders.{slot_for, beside_for, flight_commid, flight_number, beside_numbers, settled_slots, failed_slots, reply_slots, numbers_after, sender_lent, AnswersForC, start_slots, start_numbers, StartsForC, CountsWaitingForC, TellsFlightForC};
+ghost use Rattle.exports.specs.Senders.{slot_for, beside_for, flight_commid, flight_number, beside_numbers, next_slots, reply_slots, numbers_after, sender_lent, AnswersForC, start_slots, start_numbers, StartsForC, CountsWaitingForC, TellsFlightForC};
 ghost use Rattle.exports.specs.Word.{word};
 
-use crate::answers::{answer, refused_answer};
+use crate::answers::Slots;
 use envelope::Numbers;
 use sender::{Answer, Bench, Event, Flight, Refusal};
 
@@ -65,7 +65,7 @@ pub fn morlewen_sender_time_out(
 pub fn morlewen_sender_waiting(waiting: &[u32; Bench::PLACES], numbers: &[u64; BESIDE]) -> u64
     ensures { CountsWaitingForC (sender_lent waiting.now numbers.now) result }
 {
-    answer(0, 0, bench_of(numbers).waiting(waiting), 0)
+    Slots::done(bench_of(numbers).waiting(waiting), 0).word()
 }
 
 // Which one is in flight.
@@ -73,12 +73,11 @@ pub fn morlewen_sender_flight(numbers: &[u64; BESIDE]) -> u64
     ensures { TellsFlightForC numbers.now result }
 {
     let flight = bench_of(numbers).flight;
-    answer(
-        0,
-        0,
+    Slots::done(
         flight_number(flight) as usize,
         flight_commid(flight) as usize,
     )
+    .word()
 }
 
 // An event: the bench out of its numbers, and back into them.
@@ -149,30 +148,22 @@ fn answer_word(reply: Result<Answer, Refusal>) -> u64
     ensures { result ≡ word (reply_slots (told_answer reply)) }
 {
     match reply {
-        Ok(Answer::Sent) => answer(0, 0, 1, 0),
-        Ok(Answer::Waits) => answer(0, 0, 2, 0),
-        Ok(Answer::Settled(next)) => settled_word(next),
-        Ok(Answer::Again) => answer(0, 0, 5, 0),
-        Ok(Answer::Failed(next)) => failed_word(next),
-        Err(refusal) => refused_answer(Numbers::from(refusal), 0),
+        Ok(Answer::Sent) => Slots::done(1, 0).word(),
+        Ok(Answer::Waits) => Slots::done(2, 0).word(),
+        Ok(Answer::Settled(next)) => next_word(next, 3, 4),
+        Ok(Answer::Again) => Slots::done(5, 0).word(),
+        Ok(Answer::Failed(next)) => next_word(next, 6, 7),
+        Err(refusal) => Slots::refused(Numbers::from(refusal), 0).word(),
     }
 }
 
-fn settled_word(next: Option<u32>) -> u64
-    ensures { result ≡ word (settled_slots (told_next next)) }
+// One count where nothing goes out next, another with the next.
+fn next_word(next: Option<u32>, alone: u8, before: u8) -> u64
+    ensures { result ≡ word (next_slots alone before (told_next next)) }
 {
     match next {
-        None => answer(0, 0, 3, 0),
-        Some(commid) => answer(0, 0, 4, commid as usize),
-    }
-}
-
-fn failed_word(next: Option<u32>) -> u64
-    ensures { result ≡ word (failed_slots (told_next next)) }
-{
-    match next {
-        None => answer(0, 0, 6, 0),
-        Some(commid) => answer(0, 0, 7, commid as usize),
+        None => Slots::done(usize::from(alone), 0).word(),
+        Some(commid) => Slots::done(usize::from(before), commid as usize).word(),
     }
 }
 
@@ -188,7 +179,7 @@ fn start_word(start: Result<Bench, Refusal>) -> u64
     ensures { result ≡ word (start_slots (told_start start)) }
 {
     match start {
-        Ok(_) => answer(0, 0, 0, 0),
-        Err(refusal) => refused_answer(Numbers::from(refusal), 0),
+        Ok(_) => Slots::done(0, 0).word(),
+        Err(refusal) => Slots::refused(Numbers::from(refusal), 0).word(),
     }
 }

@@ -6,7 +6,7 @@ ghost use Rattle.envelope.specs.Told.{told_addressing};
 ghost use Rattle.exports.specs.Envelopes.{lateness_number, addressing_for, JudgesLatenessForC, sequence_slots, JudgesSequenceForC};
 ghost use Rattle.exports.specs.Word.{word};
 
-use crate::answers::answer;
+use crate::answers::Slots;
 use envelope::lateness::Lateness;
 use envelope::sequence::Sequence;
 use envelope::{Addressing, Envelope, Header, Integrity, Part, lateness, sequence};
@@ -35,10 +35,7 @@ pub fn morlewen_sequence(old: u32, new: u32) -> u64
 fn addressing_of(addressed: u8, ttl: u16) -> Option<Addressing>
     ensures { told_addressing result ≡ addressing_for addressed ttl }
 {
-    if addressed == 0 {
-        return None;
-    }
-    Some(Addressing {
+    (addressed != 0).then_some(Addressing {
         ttl,
         qos: 0,
         source: nowhere(),
@@ -77,9 +74,9 @@ fn sequence_word(sequence: Sequence) -> u64
     ensures { result ≡ word (sequence_slots (told_sequence sequence)) }
 {
     match sequence {
-        Sequence::Repeat => answer(0, 0, 0, 0),
-        Sequence::Next => answer(0, 0, 1, 1),
-        Sequence::Ahead(steps) => answer(0, 0, 2, steps as usize),
-        Sequence::Behind(steps) => answer(0, 0, 3, steps as usize),
+        Sequence::Repeat => Slots::done(0, 0).word(),
+        Sequence::Next => Slots::done(1, 1).word(),
+        Sequence::Ahead(steps) => Slots::done(2, steps as usize).word(),
+        Sequence::Behind(steps) => Slots::done(3, steps as usize).word(),
     }
 }

@@ -1,11 +1,10 @@
 // The judge, for C: a verdict for each rule into a lent array, and the places of the broken ones into another.
-ghost use Rattle.std.specs.Prelude.{◌≡◌, ◌<◌, ◌^◌};
+ghost use Rattle.std.specs.Prelude.{◌≡◌};
 ghost use Rattle.judge.specs.Told.{told_verdict, told_judging, told_lowest};
-ghost use Rattle.exports.specs.Helpers.{verdicts_in_order};
+ghost use Rattle.exports.specs.Helpers.{verdicts_in_order, told_slots};
 ghost use Rattle.exports.specs.Verdicts.{verdict_number, verdict_numbers, place_number, place_numbers, lowest_slots, JudgesForC, verdict_lent, JudgesPlacesForC};
-ghost use Rattle.exports.specs.Word.{word};
 
-use crate::answers::answer;
+use crate::answers::Slots;
 use envelope::Refusal;
 use judge::{Judging, Verdict, judge};
 
@@ -17,7 +16,7 @@ pub fn morlewen_judge(bytes: &[u8], verdicts: &mut [u8; RULES]) -> u64
 {
     let judging = judge(bytes);
     *verdicts = verdict_numbers(judging);
-    lowest_word(judging.lowest())
+    lowest_slots(judging.lowest()).word()
 }
 
 pub fn morlewen_judge_places(
@@ -30,17 +29,21 @@ pub fn morlewen_judge_places(
     let judging = judge(bytes);
     *verdicts = verdict_numbers(judging);
     *places = place_numbers(judging);
-    lowest_word(judging.lowest())
+    lowest_slots(judging.lowest()).word()
 }
 
 // A number in the first slot would be a refusal, and a judge refuses nothing.
-fn lowest_word(lowest: Option<Refusal>) -> u64
-    requires { (lowest_slots (told_lowest lowest)).value < 2 ^ 32 }
-    ensures { result ≡ word (lowest_slots (told_lowest lowest)) }
+fn lowest_slots(lowest: Option<Refusal>) -> Slots
+    ensures { told_slots result ≡ lowest_slots (told_lowest lowest) }
 {
     match lowest {
-        None => answer(0, 0, 0, 0),
-        Some(refusal) => answer(0, u8::from(refusal.fault), 0, refusal.place),
+        None => Slots::done(0, 0),
+        Some(refusal) => Slots {
+            number: 0,
+            reading: u8::from(refusal.fault),
+            count: 0,
+            value: refusal.place,
+        },
     }
 }
 

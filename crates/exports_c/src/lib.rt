@@ -1,4 +1,5 @@
 // The archive for C and Rust: each function of `exports` under its C name, with the same promise and no decision of its own.
+// The C interface asks for these names: so each function stands here once more.
 // Rests on the crate `exports`.
 #![tactic(auto)]
 

@@ -6,5 +6,6 @@ use Rattle.exports.proofs.feeds.morlewen_feed_message.Goals as goal
 
 pub returns : goal.returns
 returns c =
-    c.answer.ensures
+    c.word.ensures
+    ∙ ap word c.done.ensures
     ∙ ap (λ (m : List ℕ). word (sized (length m))) (c.held.ensures ∙ ap holding (c.beside_in.ensures c.args.kept.now))
