@@ -38,8 +38,8 @@ impl<R: Print + Eprint> Watch<'_, R> {
             Row::Message,
             &[
                 self.messages.saturating_add(1),
-                header.message_type as u64,
-                header.number as u64,
+                u64::from(header.message_type),
+                u64::from(header.number),
                 message.len() as u64,
                 choice,
                 steps,
@@ -80,8 +80,8 @@ fn follows(last: Option<u32>, number: u32) -> (u64, u64) {
         None => (0, 0),
         Some(Sequence::Repeat) => (1, 0),
         Some(Sequence::Next) => (2, 0),
-        Some(Sequence::Ahead(steps)) => (3, steps as u64),
-        Some(Sequence::Behind(steps)) => (4, steps as u64),
+        Some(Sequence::Ahead(steps)) => (3, u64::from(steps)),
+        Some(Sequence::Behind(steps)) => (4, u64::from(steps)),
     }
 }
 

@@ -45,10 +45,10 @@ impl<R: Print + Eprint> GoldenFile<'_, R> {
                 Row::Listed,
                 &[
                     n as u64,
-                    entry.name.message_type as u64,
-                    entry.name.number as u64,
+                    u64::from(entry.name.message_type),
+                    u64::from(entry.name.number),
                     entry.size as u64,
-                    entry.retired as u64,
+                    u64::from(entry.retired),
                 ],
             ),
             Err(refusal) => self.refuse_record(n, refusal),
@@ -109,9 +109,9 @@ impl<R: Print + Eprint> GoldenFile<'_, R> {
             Row::Taken,
             &[
                 refused.record as u64,
-                number as u64,
-                name.message_type as u64,
-                name.number as u64,
+                u64::from(number),
+                u64::from(name.message_type),
+                u64::from(name.number),
                 earlier as u64,
             ],
         )
@@ -134,7 +134,7 @@ impl<R: Print + Eprint> GoldenFile<'_, R> {
         let opened = refused.opened as u64;
         match refused.refusal {
             Refusal::NotFound => {
-                let number = Numbers::from(refused.refusal).number as u64;
+                let number = u64::from(Numbers::from(refused.refusal).number);
                 let numbers = [number, opened, opened, number];
                 self.tell(Status::Refused, Row::Missed, &numbers)
             }

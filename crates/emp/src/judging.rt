@@ -99,20 +99,20 @@ impl Judged<'_> {
             &[
                 version.choice,
                 version.place,
-                version.unjudged as u64,
-                byte_at(self.message, Envelope::VERSION_PLACE) as u64,
+                u64::from(version.unjudged),
+                u64::from(byte_at(self.message, Envelope::VERSION_PLACE)),
                 Envelope::VERSION_PLACE as u64 + 1,
                 length,
                 flags.choice,
                 flags.place,
-                flags.unjudged as u64,
-                held as u64,
+                u64::from(flags.unjudged),
+                u64::from(held),
                 kind(held) as u64,
                 Envelope::FLAGS_PLACE as u64 + 1,
                 length,
                 variable_size.choice,
                 variable_size.place,
-                variable_size.unjudged as u64,
+                u64::from(variable_size.unjudged),
                 self.sizes.variable as u64,
                 Envelope::HEADER_SIZE as u64,
                 length,
@@ -131,7 +131,7 @@ impl Judged<'_> {
             &[
                 length.choice,
                 length.place,
-                length.unjudged as u64,
+                u64::from(length.unjudged),
                 self.sizes.variable as u64,
                 self.sizes.data as u64,
                 self.sizes.end as u64,
@@ -181,15 +181,15 @@ impl Judged<'_> {
     fn tell_integrity(&self, teller: &Teller<'_, impl Print + Eprint>) -> Told {
         let integrity = Ruling::from(self.judging.integrity);
         let kind = kind(byte_at(self.message, Envelope::FLAGS_PLACE));
-        let is_crc = (kind == Kind::Crc) as u64;
+        let is_crc = u64::from(kind == Kind::Crc);
         let place = self.sizes.field;
         let field = between(self.message, place, self.sizes.end);
-        let held = u32::from_be_bytes([
+        let held = u64::from(u32::from_be_bytes([
             byte_at(field, 0),
             byte_at(field, 1),
             byte_at(field, 2),
             byte_at(field, 3),
-        ]) as u64;
+        ]));
         // the words of the kind, or of too few bytes
         let found = if integrity.unjudged { 2 } else { is_crc };
         teller.tell(
@@ -203,7 +203,7 @@ impl Judged<'_> {
                 held,
                 kind as u64,
                 held,
-                divide(between(self.message, 0, place)) as u64,
+                u64::from(divide(between(self.message, 0, place))),
                 self.sizes.end as u64,
                 self.message.len() as u64,
             ],
@@ -241,7 +241,7 @@ fn unjudged(too_few: bool) -> u64 {
 }
 
 fn sizes_in(message: &[u8]) -> Sizes {
-    let variable = byte_at(message, Envelope::VARIABLE_SIZE_PLACE) as usize;
+    let variable = usize::from(byte_at(message, Envelope::VARIABLE_SIZE_PLACE));
     let data = u32::from_be_bytes([
         0,
         byte_at(message, Envelope::DATA_LENGTH_PLACE),

@@ -125,7 +125,7 @@ impl<R: Print + Eprint> Sending<'_, R> {
 
     fn tell_fates(&self) -> Told {
         list_fates(self.teller, &self.ledger)?;
-        let in_flight = self.bench.flight.is_some() as u64;
+        let in_flight = u64::from(self.bench.flight.is_some());
         let waiting = self.bench.waiting(&self.waiting);
         tell_totals(self.teller, &self.ledger, waiting, in_flight, self.status)
     }
