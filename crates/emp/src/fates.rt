@@ -28,7 +28,7 @@ fn tell_fate(teller: &Teller<'_, impl Print + Eprint>, k: usize, entry: Entry) -
     )
 }
 
-// The template's choice.
+// The template's choice. An enum of the choices is no plainer: it is the fates once more, and each number stands once, in the arm that gives it.
 fn choice_of(fate: Fate) -> u64 {
     match fate {
         Fate::Waiting => 0,

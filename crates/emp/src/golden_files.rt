@@ -82,12 +82,13 @@ impl<R: Print + Eprint> GoldenFile<'_, R> {
 
     // The records are good, so they stand in order or break it.
     fn tell_order(&self) -> Told {
-        let numbers = match ascending(self.file) {
-            Ok(None) => [0, 0],
-            Ok(Some(record)) => [1, record as u64],
-            Err(_) => return Ok(Status::Done),
-        };
-        self.tell(Status::Done, Row::Order, &numbers)
+        match ascending(self.file) {
+            Ok(breaks) => {
+                let numbers = [u64::from(breaks.is_some()), breaks.unwrap_or(0) as u64];
+                self.tell(Status::Done, Row::Order, &numbers)
+            }
+            Err(_) => Ok(Status::Done),
+        }
     }
 
     // Of a name that is taken, with the record's name, by which find gives the earlier one: golden/Theorems `RefusesTheLater`, `EarlierIsFound`.

@@ -8,27 +8,64 @@ use judge::{Judging, Verdict, divide, judge};
 use wording::sides::byte_at;
 use wording::{Row, Status, Teller, Told};
 
-// A verdict, as the templates choose by it, the place where the rule is broken, and whether it is not judged.
+// What became of a rule, in the order of the templates' choices.
+#[derive(Clone, Copy, PartialEq)]
+enum Outcome {
+    Kept,
+    Broken,
+    NotJudged,
+}
+
+// A verdict as it is told: the place stands in the words of a broken rule alone.
 #[derive(Clone, Copy)]
 struct Ruling {
-    choice: u64,
-    place: u64,
-    unjudged: bool,
+    outcome: Outcome,
+    place: usize,
 }
 
 impl From<Verdict> for Ruling {
     fn from(verdict: Verdict) -> Ruling {
-        let (choice, place, unjudged) = match verdict {
-            Verdict::Kept => (0, 0, false),
-            Verdict::Broken(place) => (1, place, false),
-            Verdict::NotJudged => (2, 0, true),
+        let (outcome, place) = match verdict {
+            Verdict::Kept => (Outcome::Kept, 0),
+            Verdict::Broken(place) => (Outcome::Broken, place),
+            Verdict::NotJudged => (Outcome::NotJudged, 0),
         };
-        Ruling {
-            choice,
-            place: place as u64,
-            unjudged,
-        }
+        Ruling { outcome, place }
     }
+}
+
+impl Ruling {
+    fn choice(self) -> u64 {
+        self.outcome as u64
+    }
+
+    fn place(self) -> u64 {
+        self.place as u64
+    }
+
+    // 1 where the rule is not judged: the template's choice of the words behind the verdict.
+    fn unjudged(self) -> u64 {
+        u64::from(self.outcome == Outcome::NotJudged)
+    }
+}
+
+// What rule 6 found, in the order of the template's choices.
+#[derive(Clone, Copy)]
+enum AddressesFound {
+    Both,
+    SourceAlone,
+    Neither,
+    TooFewBytes,
+    // a V that the rule does not speak of
+    OtherSize,
+}
+
+// What rule 7 found, in the order of the template's choices.
+#[derive(Clone, Copy)]
+enum IntegrityFound {
+    ByKind,
+    ByDivision,
+    TooFewBytes,
 }
 
 // The sizes that a header states, of which bytes that are not there count as 0.
@@ -81,7 +118,7 @@ impl Judged<'_> {
         teller.tell(
             Status::Done,
             Row::RuleOfLeastSize,
-            &[least.choice, least.place, self.message.len() as u64],
+            &[least.choice(), least.place(), self.message.len() as u64],
             self.message,
         )
     }
@@ -97,22 +134,22 @@ impl Judged<'_> {
             Status::Done,
             Row::RulesOfOneByte,
             &[
-                version.choice,
-                version.place,
-                u64::from(version.unjudged),
+                version.choice(),
+                version.place(),
+                version.unjudged(),
                 u64::from(byte_at(self.message, Envelope::VERSION_PLACE)),
                 Envelope::VERSION_PLACE as u64 + 1,
                 length,
-                flags.choice,
-                flags.place,
-                u64::from(flags.unjudged),
+                flags.choice(),
+                flags.place(),
+                flags.unjudged(),
                 u64::from(held),
                 kind(held) as u64,
                 Envelope::FLAGS_PLACE as u64 + 1,
                 length,
-                variable_size.choice,
-                variable_size.place,
-                u64::from(variable_size.unjudged),
+                variable_size.choice(),
+                variable_size.place(),
+                variable_size.unjudged(),
                 self.sizes.variable as u64,
                 Envelope::HEADER_SIZE as u64,
                 length,
@@ -129,9 +166,9 @@ impl Judged<'_> {
             Status::Done,
             Row::RuleOfLength,
             &[
-                length.choice,
-                length.place,
-                u64::from(length.unjudged),
+                length.choice(),
+                length.place(),
+                length.unjudged(),
                 self.sizes.variable as u64,
                 self.sizes.data as u64,
                 self.sizes.end as u64,
@@ -152,19 +189,19 @@ impl Judged<'_> {
         let rest = between(region, source.unwrap_or(0), region.len());
         let destination = with_zero(rest);
         let left = between(rest, destination.unwrap_or(0), rest.len()).len() as u64;
-        let found = if addresses.unjudged {
-            unjudged(self.message.len() < needed)
-        } else {
-            addresses_found(source, destination)
+        let found = match self.judging.addresses {
+            Verdict::NotJudged if self.message.len() < needed => AddressesFound::TooFewBytes,
+            Verdict::NotJudged => AddressesFound::OtherSize,
+            _ => addresses_found(source, destination),
         };
         let source = source.unwrap_or(0) as u64;
         teller.tell(
             Status::Done,
             Row::RuleOfAddresses,
             &[
-                addresses.choice,
-                addresses.place,
-                found,
+                addresses.choice(),
+                addresses.place(),
+                found as u64,
                 source,
                 destination.unwrap_or(0) as u64,
                 left,
@@ -181,7 +218,6 @@ impl Judged<'_> {
     fn tell_integrity(&self, teller: &Teller<'_, impl Print + Eprint>) -> Told {
         let integrity = Ruling::from(self.judging.integrity);
         let kind = kind(byte_at(self.message, Envelope::FLAGS_PLACE));
-        let is_crc = u64::from(kind == Kind::Crc);
         let place = self.sizes.field;
         let field = between(self.message, place, self.sizes.end);
         let held = u64::from(u32::from_be_bytes([
@@ -190,16 +226,19 @@ impl Judged<'_> {
             byte_at(field, 2),
             byte_at(field, 3),
         ]));
-        // the words of the kind, or of too few bytes
-        let found = if integrity.unjudged { 2 } else { is_crc };
+        let found = match self.judging.integrity {
+            Verdict::NotJudged => IntegrityFound::TooFewBytes,
+            _ if kind == Kind::Crc => IntegrityFound::ByDivision,
+            _ => IntegrityFound::ByKind,
+        };
         teller.tell(
             Status::Done,
             Row::RuleOfIntegrity,
             &[
-                is_crc,
-                integrity.choice,
-                integrity.place,
-                found,
+                u64::from(kind == Kind::Crc),
+                integrity.choice(),
+                integrity.place(),
+                found as u64,
                 held,
                 kind as u64,
                 held,
@@ -214,30 +253,19 @@ impl Judged<'_> {
 
 // The bytes up to the variable header's end; for a V that is not 6 to 132, those that tell so.
 fn needed_for_addresses(v: usize) -> usize {
-    if v < Envelope::SMALLEST_VARIABLE {
-        return Envelope::HEADER_SIZE;
+    match v {
+        Envelope::SMALLEST_VARIABLE..=Envelope::LARGEST_VARIABLE => Envelope::HEADER_SIZE + v,
+        _ => Envelope::HEADER_SIZE,
     }
-    if Envelope::LARGEST_VARIABLE < v {
-        return Envelope::HEADER_SIZE;
-    }
-    Envelope::HEADER_SIZE + v
 }
 
-// Which of the words of rule 6: two addresses, one, or none.
-fn addresses_found(source: Option<usize>, destination: Option<usize>) -> u64 {
+// Of the bytes that are there.
+fn addresses_found(source: Option<usize>, destination: Option<usize>) -> AddressesFound {
     match (source, destination) {
-        (Some(_), Some(_)) => 0,
-        (Some(_), None) => 1,
-        (None, _) => 2,
+        (Some(_), Some(_)) => AddressesFound::Both,
+        (Some(_), None) => AddressesFound::SourceAlone,
+        (None, _) => AddressesFound::Neither,
     }
-}
-
-// Which of them where it is not judged: too few bytes; or, where all are there, a V that it does not speak of.
-fn unjudged(too_few: bool) -> u64 {
-    if too_few {
-        return 3;
-    }
-    4
 }
 
 fn sizes_in(message: &[u8]) -> Sizes {
