@@ -78,9 +78,10 @@ struct Sizes {
     end: usize,
 }
 
-// A message with every verdict.
-#[derive(Clone, Copy)]
-struct Judged<'a> {
+// A message with every verdict, and who tells of it.
+#[derive(Drop)]
+struct Judged<'a, R> {
+    teller: &'a Teller<'a, R>,
     message: &'a [u8],
     judging: Judging,
     sizes: Sizes,
@@ -88,11 +89,12 @@ struct Judged<'a> {
 
 pub fn judge_message(teller: &Teller<'_, impl Print + Eprint>, message: &[u8]) -> Told {
     let judged = Judged {
+        teller,
         message,
         judging: judge(message),
         sizes: sizes_in(message),
     };
-    judged.tell_rules(teller)?;
+    judged.tell_rules()?;
     match read(message) {
         Ok(_) => teller.tell(
             Status::Done,
@@ -104,34 +106,31 @@ pub fn judge_message(teller: &Teller<'_, impl Print + Eprint>, message: &[u8]) -
     }
 }
 
-impl Judged<'_> {
-    fn tell_rules(&self, teller: &Teller<'_, impl Print + Eprint>) -> Told {
-        self.tell_least_size(teller)?;
-        self.tell_bytes(teller)?;
-        self.tell_length(teller)?;
-        self.tell_addresses(teller)?;
-        self.tell_integrity(teller)
+impl<R: Print + Eprint> Judged<'_, R> {
+    fn tell_rules(&self) -> Told {
+        self.tell_least_size()?;
+        self.tell_bytes()?;
+        self.tell_length()?;
+        self.tell_addresses()?;
+        self.tell_integrity()
     }
 
-    fn tell_least_size(&self, teller: &Teller<'_, impl Print + Eprint>) -> Told {
+    fn tell_least_size(&self) -> Told {
         let least = Ruling::from(self.judging.least);
-        teller.tell(
-            Status::Done,
+        self.tell(
             Row::RuleOfLeastSize,
             &[least.choice(), least.place(), self.message.len() as u64],
-            self.message,
         )
     }
 
     // Rules 2, 3 and 4, each about one byte.
-    fn tell_bytes(&self, teller: &Teller<'_, impl Print + Eprint>) -> Told {
+    fn tell_bytes(&self) -> Told {
         let version = Ruling::from(self.judging.version);
         let flags = Ruling::from(self.judging.flags);
         let variable_size = Ruling::from(self.judging.variable_size);
         let length = self.message.len() as u64;
         let held = byte_at(self.message, Envelope::FLAGS_PLACE);
-        teller.tell(
-            Status::Done,
+        self.tell(
             Row::RulesOfOneByte,
             &[
                 version.choice(),
@@ -154,16 +153,14 @@ impl Judged<'_> {
                 Envelope::HEADER_SIZE as u64,
                 length,
             ],
-            self.message,
         )
     }
 
     // Rule 5 goes by the sizes that the header states.
-    fn tell_length(&self, teller: &Teller<'_, impl Print + Eprint>) -> Told {
+    fn tell_length(&self) -> Told {
         let length = Ruling::from(self.judging.length);
         let has = self.message.len() as u64;
-        teller.tell(
-            Status::Done,
+        self.tell(
             Row::RuleOfLength,
             &[
                 length.choice(),
@@ -176,12 +173,11 @@ impl Judged<'_> {
                 Envelope::HEADER_SIZE as u64,
                 has,
             ],
-            self.message,
         )
     }
 
     // An address is counted with its closing zero.
-    fn tell_addresses(&self, teller: &Teller<'_, impl Print + Eprint>) -> Told {
+    fn tell_addresses(&self) -> Told {
         let addresses = Ruling::from(self.judging.addresses);
         let needed = needed_for_addresses(self.sizes.variable);
         let region = between(self.message, Envelope::ADDRESSES_PLACE, needed);
@@ -195,8 +191,7 @@ impl Judged<'_> {
             _ => addresses_found(source, destination),
         };
         let source = source.unwrap_or(0) as u64;
-        teller.tell(
-            Status::Done,
+        self.tell(
             Row::RuleOfAddresses,
             &[
                 addresses.choice(),
@@ -211,11 +206,10 @@ impl Judged<'_> {
                 needed as u64,
                 self.message.len() as u64,
             ],
-            self.message,
         )
     }
 
-    fn tell_integrity(&self, teller: &Teller<'_, impl Print + Eprint>) -> Told {
+    fn tell_integrity(&self) -> Told {
         let integrity = Ruling::from(self.judging.integrity);
         let kind = kind(byte_at(self.message, Envelope::FLAGS_PLACE));
         let place = self.sizes.field;
@@ -231,8 +225,7 @@ impl Judged<'_> {
             _ if kind == Kind::Crc => IntegrityFound::ByDivision,
             _ => IntegrityFound::ByKind,
         };
-        teller.tell(
-            Status::Done,
+        self.tell(
             Row::RuleOfIntegrity,
             &[
                 u64::from(kind == Kind::Crc),
@@ -246,8 +239,11 @@ impl Judged<'_> {
                 self.sizes.end as u64,
                 self.message.len() as u64,
             ],
-            self.message,
         )
+    }
+
+    fn tell(&self, row: Row, numbers: &[u64]) -> Told {
+        self.teller.tell(Status::Done, row, numbers, self.message)
     }
 }
 

@@ -13,9 +13,10 @@ use wording::{Manner, Row, Status, Teller, Told};
 // The bytes of a body that are shown.
 const SHOWN: usize = 256;
 
-// A message, with what reading handed out of it.
-#[derive(Clone, Copy)]
-struct Accepted<'a> {
+// A message, with what reading handed out of it, and who tells of it.
+#[derive(Drop)]
+struct Accepted<'a, R> {
+    teller: &'a Teller<'a, R>,
     envelope: Envelope,
     message: &'a [u8],
 }
@@ -58,18 +59,21 @@ pub fn show_message(
     envelope: Envelope,
     message: &[u8],
 ) -> Told {
-    let accepted = Accepted { envelope, message };
-    accepted.show_header(teller)?;
-    accepted.show_addressing(teller)?;
-    accepted.show_body(teller)
+    let accepted = Accepted {
+        teller,
+        envelope,
+        message,
+    };
+    accepted.show_header()?;
+    accepted.show_addressing()?;
+    accepted.show_body()
 }
 
-impl Accepted<'_> {
-    fn show_header(&self, teller: &Teller<'_, impl Print + Eprint>) -> Told {
+impl<R: Print + Eprint> Accepted<'_, R> {
+    fn show_header(&self) -> Told {
         let header = self.envelope.header;
         let flags = header.flags;
-        teller.tell(
-            Status::Done,
+        self.tell(
             Row::Header,
             &[
                 self.message.len() as u64,
@@ -85,25 +89,20 @@ impl Accepted<'_> {
                 u64::from(header.number),
                 u64::from(header.time),
             ],
-            self.message,
         )
     }
 
-    fn show_addressing(&self, teller: &Teller<'_, impl Print + Eprint>) -> Told {
+    fn show_addressing(&self) -> Told {
         match self.envelope.addressing {
             Some(addressing) => {
-                self.show_routing(teller, addressing)?;
-                self.show_ends(teller, addressing)
+                self.show_routing(addressing)?;
+                self.show_ends(addressing)
             }
-            None => teller.tell(Status::Done, Row::Unrouted, &[0], self.message),
+            None => self.tell(Row::Unrouted, &[0]),
         }
     }
 
-    fn show_routing(
-        &self,
-        teller: &Teller<'_, impl Print + Eprint>,
-        addressing: Addressing,
-    ) -> Told {
+    fn show_routing(&self, addressing: Addressing) -> Told {
         // the variable header ends where the body begins
         let variable = self
             .envelope
@@ -111,8 +110,7 @@ impl Accepted<'_> {
             .place
             .saturating_sub(Envelope::HEADER_SIZE);
         let parts = split(addressing.qos);
-        teller.tell(
-            Status::Done,
+        self.tell(
             Row::Routed,
             &[
                 variable as u64,
@@ -124,18 +122,16 @@ impl Accepted<'_> {
                 u64::from(parts.priority),
                 u64::from(parts.class),
             ],
-            self.message,
         )
     }
 
-    fn show_ends(&self, teller: &Teller<'_, impl Print + Eprint>, addressing: Addressing) -> Told {
+    fn show_ends(&self, addressing: Addressing) -> Told {
         let Addressing {
             source,
             destination,
             ..
         } = addressing;
-        teller.tell(
-            Status::Done,
+        self.tell(
             Row::Ends,
             &[
                 u64::from(source.size != 0),
@@ -145,17 +141,15 @@ impl Accepted<'_> {
                 destination.place as u64,
                 destination.size as u64,
             ],
-            self.message,
         )
     }
 
-    fn show_body(&self, teller: &Teller<'_, impl Print + Eprint>) -> Told {
+    fn show_body(&self) -> Told {
         let body = self.envelope.body;
         let place = body.place as u64;
         let shown = body.size.min(SHOWN);
         let left = body.size - shown;
-        teller.tell(
-            Status::Done,
+        self.tell(
             Row::Body,
             &[
                 body.size as u64,
@@ -167,11 +161,15 @@ impl Accepted<'_> {
                 u64::from(held_in(self.envelope.integrity)),
                 kind(self.envelope.header.flags) as u64,
             ],
-            self.message,
         )
+    }
+
+    fn tell(&self, row: Row, numbers: &[u64]) -> Told {
+        self.teller.tell(Status::Done, row, numbers, self.message)
     }
 }
 
+// What the field holds. `exports` has it too; one method for both is no plainer: a public function more of the library, for one match.
 fn held_in(integrity: Integrity) -> u32 {
     match integrity {
         Integrity::None => 0,
