@@ -214,6 +214,7 @@ impl<R: Print + Eprint> Judged<'_, R> {
         let kind = kind(byte_at(self.message, Envelope::FLAGS_PLACE));
         let place = self.sizes.field;
         let field = between(self.message, place, self.sizes.end);
+        // one by one, for a byte that is not there counts as 0
         let held = u64::from(u32::from_be_bytes([
             byte_at(field, 0),
             byte_at(field, 1),
@@ -266,6 +267,7 @@ fn addresses_found(source: Option<usize>, destination: Option<usize>) -> Address
 
 fn sizes_in(message: &[u8]) -> Sizes {
     let variable = usize::from(byte_at(message, Envelope::VARIABLE_SIZE_PLACE));
+    // one by one, for a byte that is not there counts as 0
     let data = u32::from_be_bytes([
         0,
         byte_at(message, Envelope::DATA_LENGTH_PLACE),
