@@ -55,7 +55,7 @@ impl<R: Print + Eprint> Sending<'_, R> {
     pub(crate) fn refused(&mut self, refusal: Refusal, commid: u32) -> Told<()> {
         let what = What::Event {
             number: self.lines,
-            commid: commid as u64,
+            commid: u64::from(commid),
         };
         self.status = refuse_message(self.teller, what, refusal)?;
         Ok(())
@@ -87,8 +87,8 @@ impl<R: Print + Eprint> Sending<'_, R> {
     }
 
     fn say(&self, words: Words, commid: u32, other: u32) -> Told<()> {
-        let of = commid as u64;
-        let next = other as u64;
+        let of = u64::from(commid);
+        let next = u64::from(other);
         self.teller.tell(
             Status::Done,
             Row::Event,

@@ -7,19 +7,39 @@ use envelope::sequence::{Sequence, judge};
 use golden::{Found, Name, compare, find};
 use wording::{Row, Status, Told};
 
-// How a message and its record go together: by the first the template chooses, and the others stand in its words. An enum of the choices is no
-// plainer: each number stands once.
+// How a message follows the last one, in the order of the template's choices.
+#[derive(Clone, Copy)]
+enum Following {
+    First,
+    Repeat,
+    Next,
+    Ahead,
+    Behind,
+}
+
+// How a message and its record go together, in the order of the template's choices.
+#[derive(Clone, Copy)]
+enum Compared {
+    NoFile,
+    NoRecord,
+    Same,
+    Different,
+    NotCompared,
+    Retired,
+}
+
+// What is told of the record: the choice, and the numbers that stand in its words.
 #[derive(Clone, Copy)]
 struct Recorded {
-    choice: u64,
+    compared: Compared,
     record: usize,
-    differing: u64,
+    differing: usize,
 }
 
 impl Recorded {
-    fn new(choice: u64, record: usize, differing: u64) -> Recorded {
+    fn new(compared: Compared, record: usize, differing: usize) -> Recorded {
         Recorded {
-            choice,
+            compared,
             record,
             differing,
         }
@@ -30,7 +50,7 @@ impl<R: Print + Eprint> Watch<'_, R> {
     // What went by is still as it was before this message.
     pub(crate) fn tell_message(&self, header: Header) -> Told {
         let message = self.message();
-        let (choice, steps) = follows(self.last, header.number);
+        let (following, steps) = follows(self.last, header.number);
         let recorded = self.recorded(header, message);
         let record = recorded.record as u64;
         self.teller.tell(
@@ -38,16 +58,16 @@ impl<R: Print + Eprint> Watch<'_, R> {
             Row::Message,
             &[
                 self.messages.saturating_add(1),
-                header.message_type as u64,
-                header.number as u64,
+                u64::from(header.message_type),
+                u64::from(header.number),
                 message.len() as u64,
-                choice,
+                following as u64,
                 steps,
                 steps,
-                recorded.choice,
+                recorded.compared as u64,
                 record,
                 record,
-                recorded.differing,
+                recorded.differing as u64,
                 record,
                 record,
             ],
@@ -58,7 +78,7 @@ impl<R: Print + Eprint> Watch<'_, R> {
     // The golden file was checked, so a record is found, or no live one has that type and number; one that is retired may.
     fn recorded(&self, header: Header, message: &[u8]) -> Recorded {
         let Some(golden) = self.golden else {
-            return Recorded::new(0, 0, 0);
+            return Recorded::new(Compared::NoFile, 0, 0);
         };
         let name = Name {
             message_type: header.message_type,
@@ -67,21 +87,21 @@ impl<R: Print + Eprint> Watch<'_, R> {
         match find(golden, name) {
             Ok(Found { record, .. }) => compared_with(message, golden, record),
             Err(_) => match retired_named(golden, name) {
-                Some(record) => Recorded::new(5, record, 0),
-                None => Recorded::new(1, 0, 0),
+                Some(record) => Recorded::new(Compared::Retired, record, 0),
+                None => Recorded::new(Compared::NoRecord, 0, 0),
             },
         }
     }
 }
 
-// The template's choice of how a message follows the last one, each number once, and how many steps ahead or behind.
-fn follows(last: Option<u32>, number: u32) -> (u64, u64) {
+// And how many steps ahead or behind.
+fn follows(last: Option<u32>, number: u32) -> (Following, u64) {
     match last.map(|last| judge(last, number)) {
-        None => (0, 0),
-        Some(Sequence::Repeat) => (1, 0),
-        Some(Sequence::Next) => (2, 0),
-        Some(Sequence::Ahead(steps)) => (3, steps as u64),
-        Some(Sequence::Behind(steps)) => (4, steps as u64),
+        None => (Following::First, 0),
+        Some(Sequence::Repeat) => (Following::Repeat, 0),
+        Some(Sequence::Next) => (Following::Next, 0),
+        Some(Sequence::Ahead(steps)) => (Following::Ahead, u64::from(steps)),
+        Some(Sequence::Behind(steps)) => (Following::Behind, u64::from(steps)),
     }
 }
 
@@ -89,8 +109,8 @@ fn follows(last: Option<u32>, number: u32) -> (u64, u64) {
 fn compared_with(message: &[u8], golden: &[u8], record: usize) -> Recorded {
     let mut places = [0u32; 1];
     match compare(golden, record, message, &mut places) {
-        Ok(0) => Recorded::new(2, record, 0),
-        Ok(total) => Recorded::new(3, record, total as u64),
-        Err(_) => Recorded::new(4, record, 0),
+        Ok(0) => Recorded::new(Compared::Same, record, 0),
+        Ok(total) => Recorded::new(Compared::Different, record, total),
+        Err(_) => Recorded::new(Compared::NotCompared, record, 0),
     }
 }

@@ -12,13 +12,13 @@ pub fn list_fates(teller: &Teller<'_, impl Print + Eprint>, ledger: &Ledger) -> 
 }
 
 fn tell_fate(teller: &Teller<'_, impl Print + Eprint>, k: usize, entry: Entry) -> Told {
-    let times = entry.fate.times() as u64;
+    let times = u64::from(entry.fate.times());
     teller.tell(
         Status::Done,
         Row::Submission,
         &[
             k.wrapping_add(1) as u64,
-            entry.commid as u64,
+            u64::from(entry.commid),
             choice_of(entry.fate),
             times,
             times,
@@ -28,7 +28,7 @@ fn tell_fate(teller: &Teller<'_, impl Print + Eprint>, k: usize, entry: Entry) -
     )
 }
 
-// The template's choice.
+// The template's choice. An enum of the choices is no plainer: it is the fates once more, and each number stands once, in the arm that gives it.
 fn choice_of(fate: Fate) -> u64 {
     match fate {
         Fate::Waiting => 0,
@@ -55,7 +55,7 @@ pub fn tell_totals(
             in_flight,
             ledger.acknowledged as u64,
             ledger.ended.wrapping_sub(ledger.acknowledged) as u64,
-            (ROOM < ledger.accepted) as u64,
+            u64::from(ROOM < ledger.accepted),
             ROOM as u64,
         ],
         b"",

@@ -48,7 +48,7 @@ fn show_data(teller: &Teller<'_, impl Print + Eprint>, data: DataMessage, file: 
     teller.tell(
         Status::Done,
         Row::Frame,
-        &[data.commid as u64, file.len() as u64],
+        &[u64::from(data.commid), file.len() as u64],
         file,
     )?;
     show_message(teller, data.envelope, data.message.slice(file))
@@ -95,9 +95,9 @@ fn tell_data(
         &[
             spot.frame as u64,
             spot.place as u64,
-            data.commid as u64,
-            header.message_type as u64,
-            header.number as u64,
+            u64::from(data.commid),
+            u64::from(header.message_type),
+            u64::from(header.number),
             data.message.size as u64,
         ],
         bytes,
@@ -115,11 +115,11 @@ fn tell_acknowledgment(
         Status::Done,
         Row::Acknowledgment,
         &[
-            spot.is_some() as u64,
+            u64::from(spot.is_some()),
             frame as u64,
             place as u64,
-            acknowledgment.commid as u64,
-            acknowledgment.acknowledged as u64,
+            u64::from(acknowledgment.commid),
+            u64::from(acknowledgment.acknowledged),
         ],
         b"",
     )

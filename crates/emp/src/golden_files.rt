@@ -45,10 +45,10 @@ impl<R: Print + Eprint> GoldenFile<'_, R> {
                 Row::Listed,
                 &[
                     n as u64,
-                    entry.name.message_type as u64,
-                    entry.name.number as u64,
+                    u64::from(entry.name.message_type),
+                    u64::from(entry.name.number),
                     entry.size as u64,
-                    entry.retired as u64,
+                    u64::from(entry.retired),
                 ],
             ),
             Err(refusal) => self.refuse_record(n, refusal),
@@ -82,12 +82,13 @@ impl<R: Print + Eprint> GoldenFile<'_, R> {
 
     // The records are good, so they stand in order or break it.
     fn tell_order(&self) -> Told {
-        let numbers = match ascending(self.file) {
-            Ok(None) => [0, 0],
-            Ok(Some(record)) => [1, record as u64],
-            Err(_) => return Ok(Status::Done),
-        };
-        self.tell(Status::Done, Row::Order, &numbers)
+        match ascending(self.file) {
+            Ok(breaks) => {
+                let numbers = [u64::from(breaks.is_some()), breaks.unwrap_or(0) as u64];
+                self.tell(Status::Done, Row::Order, &numbers)
+            }
+            Err(_) => Ok(Status::Done),
+        }
     }
 
     // Of a name that is taken, with the record's name, by which find gives the earlier one: golden/Theorems `RefusesTheLater`, `EarlierIsFound`.
@@ -109,9 +110,9 @@ impl<R: Print + Eprint> GoldenFile<'_, R> {
             Row::Taken,
             &[
                 refused.record as u64,
-                number as u64,
-                name.message_type as u64,
-                name.number as u64,
+                u64::from(number),
+                u64::from(name.message_type),
+                u64::from(name.number),
                 earlier as u64,
             ],
         )
@@ -134,7 +135,7 @@ impl<R: Print + Eprint> GoldenFile<'_, R> {
         let opened = refused.opened as u64;
         match refused.refusal {
             Refusal::NotFound => {
-                let number = Numbers::from(refused.refusal).number as u64;
+                let number = u64::from(Numbers::from(refused.refusal).number);
                 let numbers = [number, opened, opened, number];
                 self.tell(Status::Refused, Row::Missed, &numbers)
             }

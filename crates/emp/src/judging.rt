@@ -8,27 +8,64 @@ use judge::{Judging, Verdict, divide, judge};
 use wording::sides::byte_at;
 use wording::{Row, Status, Teller, Told};
 
-// A verdict, as the templates choose by it, the place where the rule is broken, and whether it is not judged.
+// What became of a rule, in the order of the templates' choices.
+#[derive(Clone, Copy, PartialEq)]
+enum Outcome {
+    Kept,
+    Broken,
+    NotJudged,
+}
+
+// A verdict as it is told: the place stands in the words of a broken rule alone.
 #[derive(Clone, Copy)]
 struct Ruling {
-    choice: u64,
-    place: u64,
-    unjudged: bool,
+    outcome: Outcome,
+    place: usize,
 }
 
 impl From<Verdict> for Ruling {
     fn from(verdict: Verdict) -> Ruling {
-        let (choice, place, unjudged) = match verdict {
-            Verdict::Kept => (0, 0, false),
-            Verdict::Broken(place) => (1, place, false),
-            Verdict::NotJudged => (2, 0, true),
+        let (outcome, place) = match verdict {
+            Verdict::Kept => (Outcome::Kept, 0),
+            Verdict::Broken(place) => (Outcome::Broken, place),
+            Verdict::NotJudged => (Outcome::NotJudged, 0),
         };
-        Ruling {
-            choice,
-            place: place as u64,
-            unjudged,
-        }
+        Ruling { outcome, place }
     }
+}
+
+impl Ruling {
+    fn choice(self) -> u64 {
+        self.outcome as u64
+    }
+
+    fn place(self) -> u64 {
+        self.place as u64
+    }
+
+    // 1 where the rule is not judged: the template's choice of the words behind the verdict.
+    fn unjudged(self) -> u64 {
+        u64::from(self.outcome == Outcome::NotJudged)
+    }
+}
+
+// What rule 6 found, in the order of the template's choices.
+#[derive(Clone, Copy)]
+enum AddressesFound {
+    Both,
+    SourceAlone,
+    Neither,
+    TooFewBytes,
+    // a V that the rule does not speak of
+    OtherSize,
+}
+
+// What rule 7 found, in the order of the template's choices.
+#[derive(Clone, Copy)]
+enum IntegrityFound {
+    ByKind,
+    ByDivision,
+    TooFewBytes,
 }
 
 // The sizes that a header states, of which bytes that are not there count as 0.
@@ -41,9 +78,10 @@ struct Sizes {
     end: usize,
 }
 
-// A message with every verdict.
-#[derive(Clone, Copy)]
-struct Judged<'a> {
+// A message with every verdict, and who tells of it.
+#[derive(Drop)]
+struct Judged<'a, R> {
+    teller: &'a Teller<'a, R>,
     message: &'a [u8],
     judging: Judging,
     sizes: Sizes,
@@ -51,11 +89,12 @@ struct Judged<'a> {
 
 pub fn judge_message(teller: &Teller<'_, impl Print + Eprint>, message: &[u8]) -> Told {
     let judged = Judged {
+        teller,
         message,
         judging: judge(message),
         sizes: sizes_in(message),
     };
-    judged.tell_rules(teller)?;
+    judged.tell_rules()?;
     match read(message) {
         Ok(_) => teller.tell(
             Status::Done,
@@ -67,71 +106,66 @@ pub fn judge_message(teller: &Teller<'_, impl Print + Eprint>, message: &[u8]) -
     }
 }
 
-impl Judged<'_> {
-    fn tell_rules(&self, teller: &Teller<'_, impl Print + Eprint>) -> Told {
-        self.tell_least_size(teller)?;
-        self.tell_bytes(teller)?;
-        self.tell_length(teller)?;
-        self.tell_addresses(teller)?;
-        self.tell_integrity(teller)
+impl<R: Print + Eprint> Judged<'_, R> {
+    fn tell_rules(&self) -> Told {
+        self.tell_least_size()?;
+        self.tell_bytes()?;
+        self.tell_length()?;
+        self.tell_addresses()?;
+        self.tell_integrity()
     }
 
-    fn tell_least_size(&self, teller: &Teller<'_, impl Print + Eprint>) -> Told {
+    fn tell_least_size(&self) -> Told {
         let least = Ruling::from(self.judging.least);
-        teller.tell(
-            Status::Done,
+        self.tell(
             Row::RuleOfLeastSize,
-            &[least.choice, least.place, self.message.len() as u64],
-            self.message,
+            &[least.choice(), least.place(), self.message.len() as u64],
         )
     }
 
     // Rules 2, 3 and 4, each about one byte.
-    fn tell_bytes(&self, teller: &Teller<'_, impl Print + Eprint>) -> Told {
+    fn tell_bytes(&self) -> Told {
         let version = Ruling::from(self.judging.version);
         let flags = Ruling::from(self.judging.flags);
         let variable_size = Ruling::from(self.judging.variable_size);
         let length = self.message.len() as u64;
         let held = byte_at(self.message, Envelope::FLAGS_PLACE);
-        teller.tell(
-            Status::Done,
+        self.tell(
             Row::RulesOfOneByte,
             &[
-                version.choice,
-                version.place,
-                version.unjudged as u64,
-                byte_at(self.message, Envelope::VERSION_PLACE) as u64,
+                version.choice(),
+                version.place(),
+                version.unjudged(),
+                u64::from(byte_at(self.message, Envelope::VERSION_PLACE)),
                 Envelope::VERSION_PLACE as u64 + 1,
                 length,
-                flags.choice,
-                flags.place,
-                flags.unjudged as u64,
-                held as u64,
+                flags.choice(),
+                flags.place(),
+                flags.unjudged(),
+                u64::from(held),
                 kind(held) as u64,
                 Envelope::FLAGS_PLACE as u64 + 1,
                 length,
-                variable_size.choice,
-                variable_size.place,
-                variable_size.unjudged as u64,
+                variable_size.choice(),
+                variable_size.place(),
+                variable_size.unjudged(),
                 self.sizes.variable as u64,
                 Envelope::HEADER_SIZE as u64,
                 length,
             ],
-            self.message,
         )
     }
 
     // Rule 5 goes by the sizes that the header states.
-    fn tell_length(&self, teller: &Teller<'_, impl Print + Eprint>) -> Told {
+    fn tell_length(&self) -> Told {
         let length = Ruling::from(self.judging.length);
         let has = self.message.len() as u64;
-        teller.tell(
-            Status::Done,
+        self.tell(
             Row::RuleOfLength,
             &[
-                length.choice,
-                length.place,
-                length.unjudged as u64,
+                length.choice(),
+                length.place(),
+                length.unjudged(),
                 self.sizes.variable as u64,
                 self.sizes.data as u64,
                 self.sizes.end as u64,
@@ -139,12 +173,11 @@ impl Judged<'_> {
                 Envelope::HEADER_SIZE as u64,
                 has,
             ],
-            self.message,
         )
     }
 
     // An address is counted with its closing zero.
-    fn tell_addresses(&self, teller: &Teller<'_, impl Print + Eprint>) -> Told {
+    fn tell_addresses(&self) -> Told {
         let addresses = Ruling::from(self.judging.addresses);
         let needed = needed_for_addresses(self.sizes.variable);
         let region = between(self.message, Envelope::ADDRESSES_PLACE, needed);
@@ -152,19 +185,18 @@ impl Judged<'_> {
         let rest = between(region, source.unwrap_or(0), region.len());
         let destination = with_zero(rest);
         let left = between(rest, destination.unwrap_or(0), rest.len()).len() as u64;
-        let found = if addresses.unjudged {
-            unjudged(self.message.len() < needed)
-        } else {
-            addresses_found(source, destination)
+        let found = match self.judging.addresses {
+            Verdict::NotJudged if self.message.len() < needed => AddressesFound::TooFewBytes,
+            Verdict::NotJudged => AddressesFound::OtherSize,
+            _ => addresses_found(source, destination),
         };
         let source = source.unwrap_or(0) as u64;
-        teller.tell(
-            Status::Done,
+        self.tell(
             Row::RuleOfAddresses,
             &[
-                addresses.choice,
-                addresses.place,
-                found,
+                addresses.choice(),
+                addresses.place(),
+                found as u64,
                 source,
                 destination.unwrap_or(0) as u64,
                 left,
@@ -174,74 +206,68 @@ impl Judged<'_> {
                 needed as u64,
                 self.message.len() as u64,
             ],
-            self.message,
         )
     }
 
-    fn tell_integrity(&self, teller: &Teller<'_, impl Print + Eprint>) -> Told {
+    fn tell_integrity(&self) -> Told {
         let integrity = Ruling::from(self.judging.integrity);
         let kind = kind(byte_at(self.message, Envelope::FLAGS_PLACE));
-        let is_crc = (kind == Kind::Crc) as u64;
         let place = self.sizes.field;
         let field = between(self.message, place, self.sizes.end);
-        let held = u32::from_be_bytes([
+        // one by one, for a byte that is not there counts as 0
+        let held = u64::from(u32::from_be_bytes([
             byte_at(field, 0),
             byte_at(field, 1),
             byte_at(field, 2),
             byte_at(field, 3),
-        ]) as u64;
-        // the words of the kind, or of too few bytes
-        let found = if integrity.unjudged { 2 } else { is_crc };
-        teller.tell(
-            Status::Done,
+        ]));
+        let found = match self.judging.integrity {
+            Verdict::NotJudged => IntegrityFound::TooFewBytes,
+            _ if kind == Kind::Crc => IntegrityFound::ByDivision,
+            _ => IntegrityFound::ByKind,
+        };
+        self.tell(
             Row::RuleOfIntegrity,
             &[
-                is_crc,
-                integrity.choice,
-                integrity.place,
-                found,
+                u64::from(kind == Kind::Crc),
+                integrity.choice(),
+                integrity.place(),
+                found as u64,
                 held,
                 kind as u64,
                 held,
-                divide(between(self.message, 0, place)) as u64,
+                u64::from(divide(between(self.message, 0, place))),
                 self.sizes.end as u64,
                 self.message.len() as u64,
             ],
-            self.message,
         )
+    }
+
+    fn tell(&self, row: Row, numbers: &[u64]) -> Told {
+        self.teller.tell(Status::Done, row, numbers, self.message)
     }
 }
 
 // The bytes up to the variable header's end; for a V that is not 6 to 132, those that tell so.
 fn needed_for_addresses(v: usize) -> usize {
-    if v < Envelope::SMALLEST_VARIABLE {
-        return Envelope::HEADER_SIZE;
+    match v {
+        Envelope::SMALLEST_VARIABLE..=Envelope::LARGEST_VARIABLE => Envelope::HEADER_SIZE + v,
+        _ => Envelope::HEADER_SIZE,
     }
-    if Envelope::LARGEST_VARIABLE < v {
-        return Envelope::HEADER_SIZE;
-    }
-    Envelope::HEADER_SIZE + v
 }
 
-// Which of the words of rule 6: two addresses, one, or none.
-fn addresses_found(source: Option<usize>, destination: Option<usize>) -> u64 {
+// Of the bytes that are there.
+fn addresses_found(source: Option<usize>, destination: Option<usize>) -> AddressesFound {
     match (source, destination) {
-        (Some(_), Some(_)) => 0,
-        (Some(_), None) => 1,
-        (None, _) => 2,
+        (Some(_), Some(_)) => AddressesFound::Both,
+        (Some(_), None) => AddressesFound::SourceAlone,
+        (None, _) => AddressesFound::Neither,
     }
-}
-
-// Which of them where it is not judged: too few bytes; or, where all are there, a V that it does not speak of.
-fn unjudged(too_few: bool) -> u64 {
-    if too_few {
-        return 3;
-    }
-    4
 }
 
 fn sizes_in(message: &[u8]) -> Sizes {
-    let variable = byte_at(message, Envelope::VARIABLE_SIZE_PLACE) as usize;
+    let variable = usize::from(byte_at(message, Envelope::VARIABLE_SIZE_PLACE));
+    // one by one, for a byte that is not there counts as 0
     let data = u32::from_be_bytes([
         0,
         byte_at(message, Envelope::DATA_LENGTH_PLACE),

@@ -46,7 +46,7 @@ fn tell_lateness(
     message: &[u8],
 ) -> Told {
     let addressing = accepted.addressing;
-    let ttl = addressing.map_or(0, |addressing| addressing.ttl as u64);
+    let ttl = addressing.map_or(0, |addressing| u64::from(addressing.ttl));
     match judge(accepted, entry, clock) {
         Lateness::InTime => {
             let left = left_of(entry, ttl, clock);
@@ -119,7 +119,7 @@ fn tell_seconds(
             seconds,
             seconds,
             told.last,
-            told.before as u64,
+            u64::from(told.before),
         ],
         message,
     )

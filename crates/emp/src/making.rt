@@ -10,7 +10,7 @@ pub fn sum_file(teller: &Teller<'_, impl Print + Eprint>, file: &[u8]) -> Told {
     teller.tell(
         Status::Done,
         Row::Sum,
-        &[crc(file) as u64, file.len() as u64],
+        &[u64::from(crc(file)), file.len() as u64],
         file,
     )
 }

@@ -13,9 +13,10 @@ use wording::{Manner, Row, Status, Teller, Told};
 // The bytes of a body that are shown.
 const SHOWN: usize = 256;
 
-// A message, with what reading handed out of it.
-#[derive(Clone, Copy)]
-struct Accepted<'a> {
+// A message, with what reading handed out of it, and who tells of it.
+#[derive(Drop)]
+struct Accepted<'a, R> {
+    teller: &'a Teller<'a, R>,
     envelope: Envelope,
     message: &'a [u8],
 }
@@ -58,52 +59,50 @@ pub fn show_message(
     envelope: Envelope,
     message: &[u8],
 ) -> Told {
-    let accepted = Accepted { envelope, message };
-    accepted.show_header(teller)?;
-    accepted.show_addressing(teller)?;
-    accepted.show_body(teller)
+    let accepted = Accepted {
+        teller,
+        envelope,
+        message,
+    };
+    accepted.show_header()?;
+    accepted.show_addressing()?;
+    accepted.show_body()
 }
 
-impl Accepted<'_> {
-    fn show_header(&self, teller: &Teller<'_, impl Print + Eprint>) -> Told {
+impl<R: Print + Eprint> Accepted<'_, R> {
+    fn show_header(&self) -> Told {
         let header = self.envelope.header;
         let flags = header.flags;
-        teller.tell(
-            Status::Done,
+        self.tell(
             Row::Header,
             &[
                 self.message.len() as u64,
-                Envelope::HEADER_VERSION as u64,
-                header.message_type as u64,
-                header.version as u64,
-                flags as u64,
-                time_is_absolute(flags) as u64,
-                is_encrypted(flags) as u64,
-                is_compressed(flags) as u64,
+                u64::from(Envelope::HEADER_VERSION),
+                u64::from(header.message_type),
+                u64::from(header.version),
+                u64::from(flags),
+                u64::from(time_is_absolute(flags)),
+                u64::from(is_encrypted(flags)),
+                u64::from(is_compressed(flags)),
                 kind(flags) as u64,
                 self.envelope.body.size as u64,
-                header.number as u64,
-                header.time as u64,
+                u64::from(header.number),
+                u64::from(header.time),
             ],
-            self.message,
         )
     }
 
-    fn show_addressing(&self, teller: &Teller<'_, impl Print + Eprint>) -> Told {
+    fn show_addressing(&self) -> Told {
         match self.envelope.addressing {
             Some(addressing) => {
-                self.show_routing(teller, addressing)?;
-                self.show_ends(teller, addressing)
+                self.show_routing(addressing)?;
+                self.show_ends(addressing)
             }
-            None => teller.tell(Status::Done, Row::Unrouted, &[0], self.message),
+            None => self.tell(Row::Unrouted, &[0]),
         }
     }
 
-    fn show_routing(
-        &self,
-        teller: &Teller<'_, impl Print + Eprint>,
-        addressing: Addressing,
-    ) -> Told {
+    fn show_routing(&self, addressing: Addressing) -> Told {
         // the variable header ends where the body begins
         let variable = self
             .envelope
@@ -111,67 +110,66 @@ impl Accepted<'_> {
             .place
             .saturating_sub(Envelope::HEADER_SIZE);
         let parts = split(addressing.qos);
-        teller.tell(
-            Status::Done,
+        self.tell(
             Row::Routed,
             &[
                 variable as u64,
-                addressing.ttl as u64,
-                addressing.qos as u64,
-                parts.service_request as u64,
-                parts.special_handling as u64,
-                parts.network_preference as u64,
-                parts.priority as u64,
-                parts.class as u64,
+                u64::from(addressing.ttl),
+                u64::from(addressing.qos),
+                u64::from(parts.service_request),
+                u64::from(parts.special_handling),
+                u64::from(parts.network_preference),
+                u64::from(parts.priority),
+                u64::from(parts.class),
             ],
-            self.message,
         )
     }
 
-    fn show_ends(&self, teller: &Teller<'_, impl Print + Eprint>, addressing: Addressing) -> Told {
+    fn show_ends(&self, addressing: Addressing) -> Told {
         let Addressing {
             source,
             destination,
             ..
         } = addressing;
-        teller.tell(
-            Status::Done,
+        self.tell(
             Row::Ends,
             &[
-                (source.size != 0) as u64,
+                u64::from(source.size != 0),
                 source.place as u64,
                 source.size as u64,
-                (destination.size != 0) as u64,
+                u64::from(destination.size != 0),
                 destination.place as u64,
                 destination.size as u64,
             ],
-            self.message,
         )
     }
 
-    fn show_body(&self, teller: &Teller<'_, impl Print + Eprint>) -> Told {
+    fn show_body(&self) -> Told {
         let body = self.envelope.body;
         let place = body.place as u64;
         let shown = body.size.min(SHOWN);
         let left = body.size - shown;
-        teller.tell(
-            Status::Done,
+        self.tell(
             Row::Body,
             &[
                 body.size as u64,
                 place,
                 place,
                 shown as u64,
-                (left != 0) as u64,
+                u64::from(left != 0),
                 left as u64,
-                held_in(self.envelope.integrity) as u64,
+                u64::from(held_in(self.envelope.integrity)),
                 kind(self.envelope.header.flags) as u64,
             ],
-            self.message,
         )
+    }
+
+    fn tell(&self, row: Row, numbers: &[u64]) -> Told {
+        self.teller.tell(Status::Done, row, numbers, self.message)
     }
 }
 
+// What the field holds. `exports` has it too; one method for both is no plainer: a public function more of the library, for one match.
 fn held_in(integrity: Integrity) -> u32 {
     match integrity {
         Integrity::None => 0,

@@ -3,7 +3,7 @@
 use crate::events::event_in;
 use crate::fates::{list_fates, tell_totals};
 use crate::ledger::Ledger;
-use crate::pieces::{PIECE, read_piece};
+use crate::pieces::take_pieces;
 use crate::refusing::refuse_message;
 use console::table::between;
 use sender::{Bench, Event};
@@ -56,17 +56,9 @@ impl<'a, R> Sending<'a, R> {
 }
 
 impl<R: Input + Print + Eprint> Sending<'_, R> {
-    // A proved loop has to end: no input uses up so many reads.
     fn run(&mut self) -> Told {
-        let mut input = self.teller.rt.reader();
-        let mut room = [0u8; PIECE];
-        for _ in 0..u64::MAX {
-            let piece = read_piece(self.teller.rt, &mut input, &mut room)?;
-            if piece.is_empty() {
-                break;
-            }
-            self.take_piece(piece)?;
-        }
+        let rt = self.teller.rt;
+        take_pieces(rt, |piece| self.take_piece(piece))?;
         self.end()
     }
 }
@@ -125,7 +117,7 @@ impl<R: Print + Eprint> Sending<'_, R> {
 
     fn tell_fates(&self) -> Told {
         list_fates(self.teller, &self.ledger)?;
-        let in_flight = self.bench.flight.is_some() as u64;
+        let in_flight = u64::from(self.bench.flight.is_some());
         let waiting = self.bench.waiting(&self.waiting);
         tell_totals(self.teller, &self.ledger, waiting, in_flight, self.status)
     }

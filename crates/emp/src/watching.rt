@@ -4,7 +4,7 @@ ghost use Rattle.std.specs.Prelude.{◌<◌, length};
 ghost use Rattle.emp.specs.Watching.{Onward};
 
 use crate::golden_files::GoldenFile;
-use crate::pieces::{PIECE, read_piece};
+use crate::pieces::take_pieces;
 use crate::refusing::refuse;
 use feed::{Beside, Feed, Message, Refusal, advance, close, held};
 use golden::check;
@@ -68,24 +68,11 @@ impl<'a, R> Watch<'a, R> {
 
 impl<R: Input + Print + Eprint> Watch<'_, R> {
     fn run(&mut self) -> Told {
-        match self.take_all() {
+        let rt = self.teller.rt;
+        match take_pieces(rt, |piece| self.take_piece(piece)) {
             Ok(()) => self.end(),
             Err(Ended(told)) => told,
         }
-    }
-
-    // A proved loop has to end: no stream uses up so many reads.
-    fn take_all(&mut self) -> Result<(), Ended> {
-        let mut input = self.teller.rt.reader();
-        let mut room = [0u8; PIECE];
-        for _ in 0..u64::MAX {
-            let piece = read_piece(self.teller.rt, &mut input, &mut room)?;
-            if piece.is_empty() {
-                break;
-            }
-            self.take_piece(piece)?;
-        }
-        Ok(())
     }
 }
 
