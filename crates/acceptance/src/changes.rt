@@ -112,9 +112,36 @@ impl Trial<'_> {
     }
 }
 
+// One of these commands, by its name.
+#[derive(Clone, Copy)]
+pub enum Series {
+    Edits,
+    Flips,
+    Pairs,
+}
+
+impl Series {
+    pub fn of(name: &str) -> Option<Series> {
+        match name {
+            "edits" => Some(Series::Edits),
+            "flips" => Some(Series::Flips),
+            "pairs" => Some(Series::Pairs),
+            _ => None,
+        }
+    }
+
+    // What was done to the message, in a word.
+    fn done(self) -> &'static str {
+        match self {
+            Series::Edits => "edited",
+            Series::Flips | Series::Pairs => "flipped",
+        }
+    }
+}
+
 pub fn series_line(
     out: &mut impl Write,
-    name: &str,
+    series: Series,
     mut line: Line,
     file: &mut File,
 ) -> Result<(), Stop> {
@@ -132,13 +159,13 @@ pub fn series_line(
         made: 0,
         refused: 0,
     };
-    match name {
-        "edits" => trial.edit_each(size),
-        "flips" => trial.flip_each(8 * size),
-        _ => trial.flip_each_pair(8 * size),
+    match series {
+        Series::Edits => trial.edit_each(size),
+        Series::Flips => trial.flip_each(8 * size),
+        Series::Pairs => trial.flip_each_pair(8 * size),
     }
     let (made, refused) = (trial.made, trial.refused);
-    let done = if name == "edits" { "edited" } else { "flipped" };
+    let done = series.done();
     write!(out, " {done} {made} refused {refused}")?;
     Ok(())
 }

@@ -1,13 +1,13 @@
 // One line of cases: a comment, or a command.
 // Rests on `line` for its words; `file_lines`, `envelope_lines`, `lent_lines`, `golden_lines`, `changes`, `feed_lines` and `sender_lines` run it.
-use crate::changes::series_line;
-use crate::envelope_lines::envelope_line;
-use crate::feed_lines::feed_line;
+use crate::changes::{Series, series_line};
+use crate::envelope_lines::{EnvelopeCommand, envelope_line};
+use crate::feed_lines::{FeedCommand, feed_line};
 use crate::file_lines::file_line;
-use crate::golden_lines::golden_line;
-use crate::lent_lines::lent_line;
+use crate::golden_lines::{GoldenCommand, golden_line};
+use crate::lent_lines::{LentCommand, lent_line};
 use crate::line::{LONGEST, Line, Word};
-use crate::sender_lines::sender_line;
+use crate::sender_lines::{SenderCommand, sender_line};
 use crate::stop::{Expected, Stop};
 use crate::world::World;
 use std::io::Write;
@@ -51,29 +51,26 @@ fn run(out: &mut impl Write, text: &[u8], world: &mut World) -> Result<(), Stop>
 // part of the world.
 fn answer(out: &mut impl Write, command: Word, line: Line, world: &mut World) -> Result<(), Stop> {
     let name = str::from_utf8(command.bytes).unwrap_or("");
-    match name {
-        "file" => file_line(out, line, world),
-        "sum" | "read" | "judge" | "unwrap" | "first" | "qos" | "late" | "sequence" => {
-            envelope_line(out, name, line.named()?, &mut world.bytes)
-        }
-        "wrap" | "acknowledge" | "write" | "rewrite" | "make" | "retire" => {
-            lent_line(out, name, line.named()?, world)
-        }
-        "check"
-        | "find"
-        | "halve"
-        | "order"
-        | "step"
-        | "walk"
-        | "compare"
-        | "entry"
-        | "retired"
-        | "list" => golden_line(out, name, line.named()?, world),
-        "edits" | "flips" | "pairs" => series_line(out, name, line.named()?, &mut world.file),
-        "restart" | "piece" | "stream" | "end" => feed_line(out, name, line.named()?, world),
-        "start" | "submit" | "ack" | "nak" | "timeout" => {
-            sender_line(out, name, line.named()?, &mut world.sender)
-        }
-        _ => Err(command.unfit(Expected::Command)),
+    if name == "file" {
+        return file_line(out, line, world);
     }
+    if let Some(command) = EnvelopeCommand::of(name) {
+        return envelope_line(out, command, line.named()?, &mut world.bytes);
+    }
+    if let Some(command) = LentCommand::of(name) {
+        return lent_line(out, command, line.named()?, world);
+    }
+    if let Some(command) = GoldenCommand::of(name) {
+        return golden_line(out, command, line.named()?, world);
+    }
+    if let Some(series) = Series::of(name) {
+        return series_line(out, series, line.named()?, &mut world.file);
+    }
+    if let Some(command) = FeedCommand::of(name) {
+        return feed_line(out, command, line.named()?, world);
+    }
+    if let Some(command) = SenderCommand::of(name) {
+        return sender_line(out, command, line.named()?, &mut world.sender);
+    }
+    Err(command.unfit(Expected::Command))
 }

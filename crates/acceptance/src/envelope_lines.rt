@@ -16,21 +16,50 @@ use std::io::Write;
 // Where the message of a frame begins.
 const BODY: usize = 12;
 
+// One of these commands, by its name.
+#[derive(Clone, Copy)]
+pub enum EnvelopeCommand {
+    Sum,
+    Read,
+    Judge,
+    Unwrap,
+    First,
+    Qos,
+    Late,
+    Sequence,
+}
+
+impl EnvelopeCommand {
+    pub fn of(name: &str) -> Option<EnvelopeCommand> {
+        match name {
+            "sum" => Some(EnvelopeCommand::Sum),
+            "read" => Some(EnvelopeCommand::Read),
+            "judge" => Some(EnvelopeCommand::Judge),
+            "unwrap" => Some(EnvelopeCommand::Unwrap),
+            "first" => Some(EnvelopeCommand::First),
+            "qos" => Some(EnvelopeCommand::Qos),
+            "late" => Some(EnvelopeCommand::Late),
+            "sequence" => Some(EnvelopeCommand::Sequence),
+            _ => None,
+        }
+    }
+}
+
 pub fn envelope_line(
     out: &mut impl Write,
-    name: &str,
+    command: EnvelopeCommand,
     line: Line,
     bytes: &mut Bytes,
 ) -> Result<(), Stop> {
-    match name {
-        "sum" => sum(out, line, bytes),
-        "read" => read(out, line, bytes),
-        "judge" => judge(out, line, bytes),
-        "unwrap" => unwrap(out, line, bytes),
-        "first" => first(out, line, bytes),
-        "qos" => qos(out, line),
-        "late" => late(out, line),
-        _ => sequence(out, line),
+    match command {
+        EnvelopeCommand::Sum => sum(out, line, bytes),
+        EnvelopeCommand::Read => read(out, line, bytes),
+        EnvelopeCommand::Judge => judge(out, line, bytes),
+        EnvelopeCommand::Unwrap => unwrap(out, line, bytes),
+        EnvelopeCommand::First => first(out, line, bytes),
+        EnvelopeCommand::Qos => qos(out, line),
+        EnvelopeCommand::Late => late(out, line),
+        EnvelopeCommand::Sequence => sequence(out, line),
     }
 }
 

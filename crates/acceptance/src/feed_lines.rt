@@ -77,21 +77,42 @@ impl Feed {
     }
 }
 
+// One of these commands, by its name.
+#[derive(Clone, Copy)]
+pub enum FeedCommand {
+    Restart,
+    Piece,
+    Stream,
+    End,
+}
+
+impl FeedCommand {
+    pub fn of(name: &str) -> Option<FeedCommand> {
+        match name {
+            "restart" => Some(FeedCommand::Restart),
+            "piece" => Some(FeedCommand::Piece),
+            "stream" => Some(FeedCommand::Stream),
+            "end" => Some(FeedCommand::End),
+            _ => None,
+        }
+    }
+}
+
 pub fn feed_line(
     out: &mut impl Write,
-    name: &str,
+    command: FeedCommand,
     line: Line,
     world: &mut World,
 ) -> Result<(), Stop> {
     let feed = &mut world.feed;
-    match name {
-        "restart" => {
+    match command {
+        FeedCommand::Restart => {
             line.answer(out)?;
             morlewen_feed_restart(&mut feed.kept, &mut feed.standing);
         }
-        "piece" => piece(out, line, feed, &mut world.bytes)?,
-        "stream" => stream(out, line, feed, &mut world.bytes)?,
-        _ => {
+        FeedCommand::Piece => piece(out, line, feed, &mut world.bytes)?,
+        FeedCommand::Stream => stream(out, line, feed, &mut world.bytes)?,
+        FeedCommand::End => {
             line.answer(out)?;
             tell_end(out, feed.end())?;
         }

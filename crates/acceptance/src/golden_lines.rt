@@ -16,30 +16,63 @@ use std::fmt;
 use std::fmt::Display;
 use std::io::Write;
 
+// One of these commands, by its name.
+#[derive(Clone, Copy)]
+pub enum GoldenCommand {
+    Check,
+    Find,
+    Halve,
+    Order,
+    Step,
+    Walk,
+    Compare,
+    Entry,
+    Retired,
+    List,
+}
+
+impl GoldenCommand {
+    pub fn of(name: &str) -> Option<GoldenCommand> {
+        match name {
+            "check" => Some(GoldenCommand::Check),
+            "find" => Some(GoldenCommand::Find),
+            "halve" => Some(GoldenCommand::Halve),
+            "order" => Some(GoldenCommand::Order),
+            "step" => Some(GoldenCommand::Step),
+            "walk" => Some(GoldenCommand::Walk),
+            "compare" => Some(GoldenCommand::Compare),
+            "entry" => Some(GoldenCommand::Entry),
+            "retired" => Some(GoldenCommand::Retired),
+            "list" => Some(GoldenCommand::List),
+            _ => None,
+        }
+    }
+}
+
 pub fn golden_line(
     out: &mut impl Write,
-    name: &str,
+    command: GoldenCommand,
     line: Line,
     world: &mut World,
 ) -> Result<(), Stop> {
     let file = world.file.bytes();
-    match name {
-        "check" => check(out, line, file),
-        "find" => found(
+    match command {
+        GoldenCommand::Check => check(out, line, file),
+        GoldenCommand::Find => found(
             out,
             line,
             |message_type, number| morlewen_find(file, message_type, number),
         ),
-        "halve" => found(out, line, |message_type, number| {
+        GoldenCommand::Halve => found(out, line, |message_type, number| {
             morlewen_find_by_halving(file, message_type, number)
         }),
-        "order" => order(out, line, file),
-        "step" => one_step(out, line, file),
-        "walk" => walk(out, line, file),
-        "compare" => compare(out, line, world),
-        "entry" => one_entry(out, line, file),
-        "retired" => retired(out, line, file),
-        _ => list(out, line, file),
+        GoldenCommand::Order => order(out, line, file),
+        GoldenCommand::Step => one_step(out, line, file),
+        GoldenCommand::Walk => walk(out, line, file),
+        GoldenCommand::Compare => compare(out, line, world),
+        GoldenCommand::Entry => one_entry(out, line, file),
+        GoldenCommand::Retired => retired(out, line, file),
+        GoldenCommand::List => list(out, line, file),
     }
 }
 

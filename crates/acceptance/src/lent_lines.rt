@@ -24,19 +24,44 @@ const MOST_PART: u64 = 600;
 // The last number of a refusal by reading.
 const LAST_READING: u64 = 7;
 
+// One of these commands, by its name.
+#[derive(Clone, Copy)]
+pub enum LentCommand {
+    Wrap,
+    Acknowledge,
+    Write,
+    Rewrite,
+    Make,
+    Retire,
+}
+
+impl LentCommand {
+    pub fn of(name: &str) -> Option<LentCommand> {
+        match name {
+            "wrap" => Some(LentCommand::Wrap),
+            "acknowledge" => Some(LentCommand::Acknowledge),
+            "write" => Some(LentCommand::Write),
+            "rewrite" => Some(LentCommand::Rewrite),
+            "make" => Some(LentCommand::Make),
+            "retire" => Some(LentCommand::Retire),
+            _ => None,
+        }
+    }
+}
+
 pub fn lent_line(
     out: &mut impl Write,
-    name: &str,
+    command: LentCommand,
     line: Line,
     world: &mut World,
 ) -> Result<(), Stop> {
-    match name {
-        "wrap" => wrap(out, line, &mut world.bytes),
-        "acknowledge" => acknowledge(out, line),
-        "write" => write(out, line, &mut world.bytes),
-        "rewrite" => rewrite(out, line, &mut world.bytes),
-        "make" => make(out, line, &mut world.bytes),
-        _ => retire(out, line, &world.file),
+    match command {
+        LentCommand::Wrap => wrap(out, line, &mut world.bytes),
+        LentCommand::Acknowledge => acknowledge(out, line),
+        LentCommand::Write => write(out, line, &mut world.bytes),
+        LentCommand::Rewrite => rewrite(out, line, &mut world.bytes),
+        LentCommand::Make => make(out, line, &mut world.bytes),
+        LentCommand::Retire => retire(out, line, &world.file),
     }
 }
 

@@ -11,15 +11,44 @@ use exports::senders::{
 use std::io;
 use std::io::Write;
 
+// What the operator or the radio may tell the sender.
+#[derive(Clone, Copy)]
+pub enum Event {
+    Submit,
+    Ack,
+    Nak,
+    TimeOut,
+}
+
+// One of these commands, by its name.
+#[derive(Clone, Copy)]
+pub enum SenderCommand {
+    Start,
+    Event(Event),
+}
+
+impl SenderCommand {
+    pub fn of(name: &str) -> Option<SenderCommand> {
+        match name {
+            "start" => Some(SenderCommand::Start),
+            "submit" => Some(SenderCommand::Event(Event::Submit)),
+            "ack" => Some(SenderCommand::Event(Event::Ack)),
+            "nak" => Some(SenderCommand::Event(Event::Nak)),
+            "timeout" => Some(SenderCommand::Event(Event::TimeOut)),
+            _ => None,
+        }
+    }
+}
+
 pub fn sender_line(
     out: &mut impl Write,
-    name: &str,
+    command: SenderCommand,
     line: Line,
     sender: &mut Sender,
 ) -> Result<(), Stop> {
-    match name {
-        "start" => start(out, line, sender)?,
-        _ => event(out, name, line, sender)?,
+    match command {
+        SenderCommand::Start => start(out, line, sender)?,
+        SenderCommand::Event(event) => tell_after(out, event, line, sender)?,
     }
     tell_flight(out, sender)?;
     for waiting in &sender.waiting {
@@ -38,20 +67,20 @@ fn start(out: &mut impl Write, mut line: Line, sender: &mut Sender) -> Result<()
     Ok(())
 }
 
-fn event(
+fn tell_after(
     out: &mut impl Write,
-    name: &str,
+    event: Event,
     mut line: Line,
     sender: &mut Sender,
 ) -> Result<(), Stop> {
     let commid = line.field("commid", FOUR)? as u32;
     line.answer(out)?;
     let (waiting, beside) = (&mut sender.waiting, &mut sender.beside);
-    let answer = match name {
-        "submit" => morlewen_sender_submit(waiting, beside, commid),
-        "ack" => morlewen_sender_ack(waiting, beside, commid),
-        "nak" => morlewen_sender_nak(waiting, beside, commid),
-        _ => morlewen_sender_time_out(waiting, beside, commid),
+    let answer = match event {
+        Event::Submit => morlewen_sender_submit(waiting, beside, commid),
+        Event::Ack => morlewen_sender_ack(waiting, beside, commid),
+        Event::Nak => morlewen_sender_nak(waiting, beside, commid),
+        Event::TimeOut => morlewen_sender_time_out(waiting, beside, commid),
     };
     tell_event(out, Answer(answer))?;
     Ok(())
