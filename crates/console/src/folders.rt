@@ -17,6 +17,7 @@ pub(crate) fn is_there(rt: &impl Files, name: &[u8]) -> Result<bool> {
     let (folder, entry) = name.split_at(behind_slash(name));
     let mut names = open(rt, folder)?;
     let mut room = [0u8; ROOM];
+    // the contract of reading does not say that the names come to an end, so a bound has to stand here
     for _ in 0..u64::MAX {
         let size = names.read(&mut room)?;
         if size == 0 {

@@ -76,7 +76,7 @@ fn put_rows_named(page: &mut Page, given: Given, next: usize) {
 fn put_row_named(page: &mut Page, n: u64, table: &[u8]) {
     let mut digits = [0u8; 20];
     let count = io::decimal(n, &mut digits);
-    let named = row(table, row_named(table, TAB, &digits[..count]));
+    let named: &[u8] = row_named(table, TAB, &digits[..count]).map_or(&[], |k| row(table, k));
     page.lay(&digits[..count]);
     page.lay(b", ");
     page.lay(piece(named, TAB, 1));

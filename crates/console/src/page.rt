@@ -7,6 +7,7 @@ const ROW: usize = 16;
 // The last printable ASCII byte.
 const TILDE: u8 = 0x7E;
 
+// A buffer with its length beside it: its memory is fixed, and a `Cursor` would write in part what finds no room.
 #[derive(Drop)]
 pub(crate) struct Page<'a> {
     pub(crate) bytes: &'a mut [u8],

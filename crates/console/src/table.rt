@@ -21,10 +21,10 @@ pub fn row(table: &[u8], k: usize) -> &[u8] {
     piece(table, LINE_END, k)
 }
 
-// The row whose first piece, up to this mark, is the name: one past the last, where there is none.
-pub fn row_named(table: &[u8], mark: u8, name: &[u8]) -> usize {
+// Which row has the name for its first piece, up to this mark. An empty line ends the table.
+pub fn row_named(table: &[u8], mark: u8, name: &[u8]) -> Option<usize> {
     table
         .split(|byte| *byte == LINE_END)
-        .position(|line| line.is_empty() || piece(line, mark, 0) == name)
-        .unwrap_or_else(|| pieces(table, LINE_END))
+        .take_while(|line| !line.is_empty())
+        .position(|line| piece(line, mark, 0) == name)
 }

@@ -4,11 +4,8 @@ use crate::refusing::refuse;
 use golden::{Record, Refusal, compare, stored_message};
 use layout::{Layout, field_at, layout_of};
 use wording::refusals::{Subject, What, Whole};
-use wording::sides::show_difference;
+use wording::sides::{Mark, Marks, PLACES, show_difference};
 use wording::{Row, Status, Teller, Told};
-
-// What the list of places holds where no place was put: a place that no message has.
-const NOWHERE: u32 = 4_294_967_295;
 
 pub fn compare_record(
     teller: &Teller<'_, impl Print + Eprint>,
@@ -16,13 +13,15 @@ pub fn compare_record(
     record: usize,
     radio: &[u8],
 ) -> Told {
-    let mut places = [NOWHERE; Record::SIZE];
+    let mut places = [0; Record::SIZE];
     let part = stored_message(file, record);
     match compare(file, record, radio, &mut places) {
         Ok(0) => teller.tell(Status::Done, Row::Same, &[radio.len() as u64], radio),
         Ok(total) => {
             let golden = part.slice(file);
-            let marks = marks_of(golden, radio, &places);
+            // the first of the places are listed, as many as find room
+            let listed = &places[..total.min(places.len())];
+            let marks = marks_of(golden, radio, listed);
             show_difference(teller, golden, radio, total, &marks)
         }
         Err(refusal) => refuse_comparing(teller, refusal, part.place),
@@ -44,10 +43,10 @@ fn refuse_comparing(
 }
 
 // A mark for each place that is listed and shown.
-fn marks_of(golden: &[u8], radio: &[u8], places: &[u32; Record::SIZE]) -> [u8; Record::SIZE] {
+fn marks_of(golden: &[u8], radio: &[u8], places: &[u32]) -> Marks<PLACES> {
     let of_golden = layout_of(golden);
     let of_radio = layout_of(radio);
-    let mut marks = [0u8; Record::SIZE];
+    let mut marks = [None; PLACES];
     for place in places {
         let place = *place as usize;
         // by the golden message where it has that place, and else by the radio's
@@ -56,14 +55,14 @@ fn marks_of(golden: &[u8], radio: &[u8], places: &[u32; Record::SIZE]) -> [u8; R
         } else {
             of_radio
         };
-        if place < Record::SIZE {
-            marks[place] = mark_in(layout, place);
+        if place < PLACES {
+            marks[place] = Some(mark_in(layout, place));
         }
     }
     marks
 }
 
-// The mark of a place: one more than the order of its field.
-pub fn mark_in(layout: Layout, place: usize) -> u8 {
-    u8::from(field_at(layout, place)).wrapping_add(1)
+// The mark of a place: its field.
+pub fn mark_in(layout: Layout, place: usize) -> Mark {
+    Mark::Field(u8::from(field_at(layout, place)))
 }

@@ -7,7 +7,7 @@ use envelope::qos::split;
 use envelope::{Addressing, Envelope, Fault, Integrity, Refusal, read};
 use layout::layout_of;
 use wording::refusals::What;
-use wording::sides::{ADDRESSES, show_marked};
+use wording::sides::{Mark, show_marked};
 use wording::{Manner, Row, Status, Teller, Told};
 
 // The bytes of a body that are shown.
@@ -42,9 +42,9 @@ fn show_refused(
 }
 
 // The field at the place; of rule 6 both addresses, for either may be the wrong one.
-fn mark_of(refusal: Refusal, message: &[u8]) -> u8 {
+fn mark_of(refusal: Refusal, message: &[u8]) -> Mark {
     match refusal.fault {
-        Fault::BadAddresses => ADDRESSES,
+        Fault::BadAddresses => Mark::Addresses,
         _ => mark_in(layout_of(message), refusal.place),
     }
 }

@@ -47,6 +47,13 @@ impl TryFrom<usize> for Switch {
     }
 }
 
+impl Switch {
+    fn named(word: &[u8]) -> Result<Switch, NoRow> {
+        let row = row_named(OPTIONS, BLANK, word).ok_or(NoRow)?;
+        Switch::try_from(row)
+    }
+}
+
 // What the options ask for, and the names. An argument that is a name or no option there is goes by its place.
 #[derive(Clone, Copy)]
 pub struct Given {
@@ -81,6 +88,7 @@ impl Given {
             count: 0,
         };
         let mut word = [0u8; WORD];
+        // by their places: std's `args` takes the heap
         for argument in 1..usize::MAX {
             match rt.arg(argument, &mut word) {
                 Ok(size) => given.take(argument, &word[..size]),
@@ -96,7 +104,7 @@ impl Given {
             self.take_name(argument);
             return;
         }
-        match Switch::try_from(row_named(OPTIONS, BLANK, word)) {
+        match Switch::named(word) {
             Ok(switch) => self.turn_on(switch),
             Err(NoRow) => self.unknown = self.unknown.or(Some(argument)),
         }
@@ -154,10 +162,13 @@ impl Given {
 
 // An argument that was read before, in the room that is lent.
 pub(crate) fn word_at<'a>(rt: &impl Env, argument: usize, room: &'a mut [u8]) -> &'a [u8] {
-    match rt.arg(argument, room) {
-        Ok(size) => &room[..size],
-        Err(_) => &room[..0],
-    }
+    let read = rt.arg(argument, room);
+    filled(room, read)
+}
+
+// What was read into a room: nothing, where reading failed.
+pub(crate) fn filled(room: &[u8], read: Result<usize, FillError>) -> &[u8] {
+    read.ok().and_then(|size| room.get(..size)).unwrap_or(&[])
 }
 
 // A word that does not begin with a hyphen, and the hyphen alone, which stands for standard input.

@@ -125,10 +125,15 @@ impl Verb {
     pub fn named(rt: &(impl Env + Print + Eprint), argument: usize) -> Told<Verb> {
         let mut room = [0u8; WORD];
         let word = word_at(rt, argument, &mut room);
-        Verb::try_from(row_named(COMMANDS, BLANK, word)).map_err(|_| {
-            let near = row(COMMANDS, nearest(COMMANDS, BLANK, word));
-            complain(rt, Row::UnknownCommand, word, piece(near, BLANK, 0))
+        Verb::of_word(word).map_err(|_| {
+            let near = piece(nearest_row(COMMANDS, word), BLANK, 0);
+            complain(rt, Row::UnknownCommand, word, near)
         })
+    }
+
+    fn of_word(word: &[u8]) -> Result<Verb, NoRow> {
+        let row = row_named(COMMANDS, BLANK, word).ok_or(NoRow)?;
+        Verb::try_from(row)
     }
 
     // Its row of the table of commands.
@@ -140,8 +145,11 @@ impl Verb {
 pub fn unknown_option(rt: &(impl Env + Print + Eprint), argument: usize) -> Complained {
     let mut room = [0u8; WORD];
     let word = word_at(rt, argument, &mut room);
-    let near = nearest(OPTIONS, BLANK, word);
-    complain(rt, Row::UnknownOption, word, row(OPTIONS, near))
+    complain(rt, Row::UnknownOption, word, nearest_row(OPTIONS, word))
+}
+
+fn nearest_row(table: &'static [u8], word: &[u8]) -> &'static [u8] {
+    nearest(table, BLANK, word).map_or(&[], |k| row(table, k))
 }
 
 // The command of a verb, where there are as many words as in its form, each of its kind.
@@ -214,11 +222,11 @@ impl Taken {
     fn take(&mut self, rt: &(impl Env + Print + Eprint), name: &[u8], argument: usize) -> Told<()> {
         let mut room = [0u8; WORD];
         let word = word_at(rt, argument, &mut room);
-        let largest = piece(row(NUMBERS, row_named(NUMBERS, BLANK, name)), BLANK, 1);
-        if largest.is_empty() {
+        let Some(k) = row_named(NUMBERS, BLANK, name) else {
             self.take_file(argument, is_standard_input(word));
             return Ok(());
-        }
+        };
+        let largest = piece(row(NUMBERS, k), BLANK, 1);
         match decimal_of(word, decimal_of(largest, u64::MAX).unwrap_or(0)) {
             Some(n) => self.take_number(n),
             None => return Err(complain(rt, Row::NotANumber, name, largest)),

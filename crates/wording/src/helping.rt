@@ -1,5 +1,6 @@
 // Help: a command's form and what it does, or every command, option, exit status and refusal; and the version.
 // Rests on the table of commands.
+use crate::arguments::filled;
 use crate::commands::{COMMANDS, TAB, Verb};
 use crate::rows::Row;
 use crate::status::{Status, Told};
@@ -105,8 +106,6 @@ pub fn version(teller: &Teller<'_, impl Env + Print + Eprint>) -> Told {
 
 // Nothing, where the kit is not known.
 fn kit_in<'a>(rt: &impl Env, room: &'a mut [u8]) -> &'a [u8] {
-    match rt.var(KIT, room) {
-        Ok(size) => &room[..size],
-        Err(_) => &room[..0],
-    }
+    let read = rt.var(KIT, room);
+    filled(room, read)
 }

@@ -1,37 +1,52 @@
 // Messages in rows of hex, with places in brackets and the fields that they lie in: two side by side where they differ, plainly a line for
 // each place; or one by itself where it is refused.
-// Rests on marks that are lent, a byte for each place: 0, or, of a place in brackets, one more than the order of its field in the envelope's table.
+// Rests on marks that are lent, one for each place that stands in brackets.
 ghost use Rattle.std.specs.Prelude.{◌≡◌, slice_index};
 
 use crate::rows::Row;
 use crate::status::{Status, Told};
 use crate::telling::{Manner, Teller};
-use console::table::between;
 
 // The places that are shown: as many as a record has bytes, which are more than those of a golden message.
 pub const PLACES: usize = 512;
 
-// The bytes in a row, and the rows that are shown.
+// The bytes in a row.
 const ROW: usize = 8;
 
-const ROWS: usize = PLACES / ROW;
+// The names of a row: the fields of the table, and behind them the two addresses together.
+const FIELDS: u8 = 15;
 
-// The fields of the table, and behind them the two addresses together, which rule 6 speaks of.
-const FIELDS: usize = 15;
-
-pub const ADDRESSES: u8 = 15;
+const ADDRESSES: u8 = 14;
 
 // The numbers of a byte in a row: how it is shown, and the byte for each way that shows it.
 const CELL_NUMBERS: usize = 3;
 
-// Where the numbers of a row begin that are the golden message's, the radio's and the fields', and how many there are.
-const GOLDEN: usize = 2;
+// The numbers of a row: of its place, of the golden message's bytes and as many of the radio's, and one for each name.
+const PLACE_NUMBERS: usize = 2;
 
-const RADIO: usize = 26;
+const SIDE_NUMBERS: usize = ROW * CELL_NUMBERS;
 
-const NAMES: usize = 50;
+const NUMBERS: usize = PLACE_NUMBERS + 2 * SIDE_NUMBERS + FIELDS as usize;
 
-const NUMBERS: usize = 65;
+// By what a place in brackets is named: its field, by the order in the envelope's table, or both addresses, of which rule 6 speaks.
+#[derive(Clone, Copy)]
+pub enum Mark {
+    Field(u8),
+    Addresses,
+}
+
+// The order of the name in a row.
+impl From<Mark> for u8 {
+    fn from(mark: Mark) -> u8 {
+        match mark {
+            Mark::Field(order) => order,
+            Mark::Addresses => ADDRESSES,
+        }
+    }
+}
+
+// The marks of places, from the first of them on.
+pub type Marks<const N: usize> = [Option<Mark>; N];
 
 // How a place is shown, in the order of the template's choices: last, of a side that is left out, not even the room.
 #[derive(Clone, Copy)]
@@ -48,8 +63,7 @@ enum Cell {
 struct Sides<'a, R> {
     teller: &'a Teller<'a, R>,
     golden: &'a [u8],
-    radio: &'a [u8],
-    alone: bool,
+    radio: Option<&'a [u8]>,
 }
 
 // A row of them: the place where it begins, its own marks, and the first of the fields that it names.
@@ -57,8 +71,8 @@ struct Sides<'a, R> {
 struct Line<'a, R> {
     sides: &'a Sides<'a, R>,
     place: usize,
-    marks: &'a [u8],
-    first: Option<usize>,
+    marks: &'a Marks<ROW>,
+    first: Option<u8>,
 }
 
 // Where two messages differ, in this many places. Each line is written by itself, and none behind one that could not be.
@@ -67,34 +81,36 @@ pub fn show_difference(
     golden: &[u8],
     radio: &[u8],
     total: usize,
-    marks: &[u8],
+    marks: &Marks<PLACES>,
 ) -> Told {
     let sides = Sides {
         teller,
         golden,
-        radio,
-        alone: false,
+        radio: Some(radio),
     };
     teller.tell(Status::Refused, Row::Different, &[total as u64], golden)?;
     match teller.manner {
-        Manner::Words => sides.show_both(marks),
+        Manner::Words => {
+            sides.show_rows(marks)?;
+            // a golden message ends before the rows do, so every place of the radio's after them differs
+            sides.show_more(PLACES, radio.len(), 1)
+        }
         Manner::Plain => sides.show_places(marks),
         Manner::Quiet => Ok(Status::Refused),
     }
 }
 
 // A message with one place in brackets. The row of a place beyond those shown comes behind them.
-pub fn show_marked(
-    teller: &Teller<'_, impl Print + Eprint>,
-    message: &[u8],
+pub fn show_marked<'a>(
+    teller: &'a Teller<'_, impl Print + Eprint>,
+    message: &'a [u8],
     place: usize,
-    mark: u8,
+    mark: Mark,
 ) -> Told {
     let sides = Sides {
         teller,
         golden: message,
-        radio: message,
-        alone: true,
+        radio: None,
     };
     teller.tell(Status::Refused, Row::Marked, &[0], message)?;
     sides.show_rows(&marks_with(place, mark))?;
@@ -104,43 +120,38 @@ pub fn show_marked(
     sides.show_beyond(place, mark)
 }
 
-fn marks_with(place: usize, mark: u8) -> [u8; PLACES] {
-    let mut marks = [0u8; PLACES];
+fn marks_with(place: usize, mark: Mark) -> Marks<PLACES> {
+    let mut marks = [None; PLACES];
     if place < PLACES {
-        marks[place] = mark;
+        marks[place] = Some(mark);
     }
     marks
 }
 
 impl<R: Print + Eprint> Sides<'_, R> {
-    // A golden message ends before the rows do, so every place of the radio's after them differs.
-    fn show_both(&self, marks: &[u8]) -> Told {
-        self.show_rows(marks)?;
-        self.show_more(PLACES, self.radio.len(), 1)
-    }
-
-    fn show_beyond(&self, place: usize, mark: u8) -> Told {
+    fn show_beyond(&self, place: usize, mark: Mark) -> Told {
         let column = place % ROW;
         let row = place - column;
-        let mut marks = [0u8; ROW];
-        marks[column] = mark;
+        let mut marks = [None; ROW];
+        marks[column] = Some(mark);
         self.show_more(PLACES, row, 0)?;
         self.show_row(row, &marks)?;
         self.show_more(row.wrapping_add(ROW), self.golden.len(), 0)
     }
 
-    fn show_rows(&self, marks: &[u8]) -> Told {
-        for k in 0..ROWS {
-            let row = k * ROW;
-            self.show_row(row, between(marks, row, row + ROW))?;
+    fn show_rows(&self, marks: &Marks<PLACES>) -> Told {
+        let (rows, _) = marks.as_chunks::<ROW>();
+        for (k, row) in rows.iter().enumerate() {
+            self.show_row(k * ROW, row)?;
         }
         Ok(Status::Refused)
     }
 
     // The row that begins at a place, by its own marks.
-    fn show_row(&self, place: usize, marks: &[u8]) -> Told {
+    fn show_row(&self, place: usize, marks: &Marks<ROW>) -> Told {
         let first = first_named(marks);
-        if self.golden.len() <= place && self.radio.len() <= place && first.is_none() {
+        let radio = self.radio.unwrap_or(&[]);
+        if self.golden.len() <= place && radio.len() <= place && first.is_none() {
             return Ok(Status::Refused);
         }
         let line = Line {
@@ -149,12 +160,8 @@ impl<R: Print + Eprint> Sides<'_, R> {
             marks,
             first,
         };
-        let mut numbers = [0u64; NUMBERS];
-        for (k, number) in numbers.iter_mut().enumerate() {
-            *number = line.number(k);
-        }
         self.teller
-            .tell(Status::Refused, Row::Row, &numbers, self.golden)
+            .tell(Status::Refused, Row::Row, &line.numbers(), self.golden)
     }
 
     // The rows from a place to an end that are not shown, and, of two messages, their places.
@@ -169,26 +176,28 @@ impl<R: Print + Eprint> Sides<'_, R> {
     }
 
     // The differing places that are shown.
-    fn show_places(&self, marks: &[u8]) -> Told {
+    fn show_places(&self, marks: &Marks<PLACES>) -> Told {
         for (place, mark) in marks.iter().enumerate() {
-            if *mark != 0 {
+            if let Some(mark) = mark {
                 self.show_place(place, *mark)?;
             }
         }
         Ok(Status::Refused)
     }
 
-    fn show_place(&self, place: usize, mark: u8) -> Told {
+    // The template names no field before the first.
+    fn show_place(&self, place: usize, mark: Mark) -> Told {
+        let radio = self.radio.unwrap_or(&[]);
         self.teller.tell(
             Status::Refused,
             Row::Place,
             &[
                 place as u64,
-                (place < self.golden.len()) as u64,
-                byte_at(self.golden, place) as u64,
-                (place < self.radio.len()) as u64,
-                byte_at(self.radio, place) as u64,
-                mark as u64,
+                u64::from(place < self.golden.len()),
+                u64::from(byte_at(self.golden, place)),
+                u64::from(place < radio.len()),
+                u64::from(byte_at(radio, place)),
+                u64::from(u8::from(mark)).wrapping_add(1),
             ],
             self.golden,
         )
@@ -196,45 +205,45 @@ impl<R: Print + Eprint> Sides<'_, R> {
 }
 
 impl<R> Line<'_, R> {
-    // The number that the row's template takes behind so many others.
-    fn number(&self, k: usize) -> u64 {
-        if k == 0 {
-            return further_digits(self.place);
-        }
-        if k < GOLDEN {
-            return self.place as u64;
-        }
-        if k < RADIO {
-            return self.cell_number(self.sides.golden, k - GOLDEN);
-        }
-        if NAMES <= k {
-            return self.name_number(k - NAMES);
-        }
-        if self.sides.alone {
-            return Cell::Nothing as u64;
-        }
-        self.cell_number(self.sides.radio, k - RADIO)
+    // The numbers that the row's template takes.
+    fn numbers(&self) -> [u64; NUMBERS] {
+        let mut numbers = [0u64; NUMBERS];
+        let (place, cells) = numbers.split_at_mut(PLACE_NUMBERS);
+        let (golden, cells) = cells.split_at_mut(SIDE_NUMBERS);
+        let (radio, names) = cells.split_at_mut(SIDE_NUMBERS);
+        place.copy_from_slice(&[further_digits(self.place), self.place as u64]);
+        self.put_cells(Some(self.sides.golden), golden);
+        self.put_cells(self.sides.radio, radio);
+        self.put_names(names);
+        numbers
     }
 
-    fn cell_number(&self, message: &[u8], k: usize) -> u64 {
-        let column = k / CELL_NUMBERS;
-        let place = self.place.wrapping_add(column);
-        if k % CELL_NUMBERS == 0 {
-            return cell_of(place < message.len(), byte_at(self.marks, column) != 0) as u64;
+    fn put_cells(&self, message: Option<&[u8]>, numbers: &mut [u64]) {
+        let (cells, _) = numbers.as_chunks_mut::<CELL_NUMBERS>();
+        for (column, (cell, mark)) in cells.iter_mut().zip(self.marks).enumerate() {
+            let place = self.place.wrapping_add(column);
+            *cell = cell_numbers(message, place, mark.is_some());
         }
-        byte_at(message, place) as u64
     }
 
     // A field is not named, or it is the first named, or a further one.
-    fn name_number(&self, order: usize) -> u64 {
-        if self.first == Some(order) {
-            return 1;
+    fn put_names(&self, numbers: &mut [u64]) {
+        for (order, number) in (0..).zip(numbers) {
+            if self.first == Some(order) {
+                *number = 1;
+            } else if is_named(self.marks, order) {
+                *number = 2;
+            }
         }
-        if is_named(self.marks, order) {
-            return 2;
-        }
-        0
     }
+}
+
+fn cell_numbers(message: Option<&[u8]>, place: usize, marked: bool) -> [u64; CELL_NUMBERS] {
+    let Some(message) = message else {
+        return [Cell::Nothing as u64, 0, 0];
+    };
+    let byte = u64::from(byte_at(message, place));
+    [cell_of(place < message.len(), marked) as u64, byte, byte]
 }
 
 // How many digits stand behind the first; no file that is taken has a place of more than five.
@@ -252,7 +261,7 @@ fn cell_of(there: bool, marked: bool) -> Cell {
     }
 }
 
-// A byte that is not there counts as 0.
+// A byte that is not there counts as 0. The function of `layout` says the same, and nothing here rests on that crate.
 pub fn byte_at(bytes: &[u8], place: usize) -> u8
     ensures { result ≡ slice_index bytes.now place }
 {
@@ -260,15 +269,11 @@ pub fn byte_at(bytes: &[u8], place: usize) -> u8
 }
 
 // The first of the fields that a row names.
-fn first_named(marks: &[u8]) -> Option<usize> {
+fn first_named(marks: &Marks<ROW>) -> Option<u8> {
     (0..FIELDS).find(|order| is_named(marks, *order))
 }
 
 // Whether a place of the row is marked by a field.
-fn is_named(marks: &[u8], order: usize) -> bool {
-    marks.iter().any(|mark| is_mark_of(*mark, order))
-}
-
-fn is_mark_of(mark: u8, order: usize) -> bool {
-    mark as usize == order.wrapping_add(1)
+fn is_named(marks: &Marks<ROW>, order: u8) -> bool {
+    marks.iter().flatten().any(|mark| u8::from(*mark) == order)
 }

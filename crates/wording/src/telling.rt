@@ -185,7 +185,7 @@ fn put_half(
 ) -> Told<()> {
     let mut page = [0u8; PAGE];
     let template = piece(TEMPLATES, HALF_END, half);
-    let size = fill(&mut page, 0, template, numbers, lent);
+    let size = fill(&mut page, template, numbers, lent);
     put_on(rt, to, &page[..size])
 }
 
