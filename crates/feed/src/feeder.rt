@@ -44,6 +44,7 @@ impl Feed {
     }
 
     // Uses bytes of the piece until something is found. What is left of it goes into the next call.
+    // By value, for README and docs/ACCEPTANCE.md name it with its promise, `Takes self piece result`; `advance` is the form in place.
     pub fn take(mut self, piece: &[u8]) -> Taken
         ensures { Takes self piece.now result }
     {

@@ -3,14 +3,15 @@
 use mathlib.Core.Bool.{Bool, true, false, cond, not, ◌&&◌}
 use mathlib.Core.List.{List, [], ◌∷◌}
 use mathlib.Core.Path.{◌≡◌, refl, ap, ap₂, sym, ◌∙◌, subst}
-use Prim.Native.Nat.{ℕ, ◌+◌, ◌*◌, ◌/◌, ◌%◌, ◌≤◌, ◌<◌}
+use Prim.Native.Nat.{ℕ, zero, suc, ◌+◌, ◌*◌, ◌/◌, ◌%◌, ◌≤◌, ◌<◌}
 use native.Mathlib.Decide.{dec_lt}
 use native.Mathlib.Omega.{arith}
 use borrow.Author.Tests.{eqb-true, eq-eqb, ltb-false, le-ltb, not-false}
 use lib.Dec.{eqb, ltb}
-use lib.ListN.{length, drop}
-use lib.Seq.{ext_get_or, get_or-take, get_or-drop}
+use lib.ListN.{length, take, drop, get_or}
+use lib.Seq.{drop-drop, ext_get_or, get_or-take, get_or-drop}
 use Rattle.std.specs.Prelude.{Result, Ok, Err, MatchResult, nat_lt}
+use Rattle.std.specs.Simd.{first_chunks}
 use Rattle.std.proofs.lemmas.Bool.Decides.{nat_tests}
 use Rattle.envelope.proofs.BoolLaws.{neither}
 use Rattle.envelope.proofs.RuleLaws.{two_at_is}
@@ -20,6 +21,7 @@ use Rattle.envelope.specs.Numbers.{byte_at, two_bytes}
 use Rattle.envelope.specs.Reading.{reading}
 use Rattle.envelope.specs.Refusals.{Refused, plainly, among, Gives}
 use Rattle.golden.specs.File.{most_records, largest_file, bad_file, count_of, not_there, record_at, judged_at}
+use Rattle.golden.specs.Helpers.{Opened, opening, records_of}
 use Rattle.golden.specs.Listing.{counted, refused, counting, told_counting}
 use Rattle.golden.specs.declared.refusal.Refusal.{Refusal}
 use Rattle.golden.specs.Record.{record_size, head_size, message_room, stored_word, retired_mark, is_retired, stored_length, message_of, bad_length, not_clear, Judged, good, bad, by_reading, judging}
@@ -72,6 +74,36 @@ has_record_lem f n (Ok count) b below one e m =
 has_record_lem f n (Err r) b below one e m = rw (m, (uncounted_so f _ e).0)
 
 -- ---- where records and their bytes stand
+
+chunk_count : (k : ℕ) (xs : List ℕ) → length (first_chunks record_size k xs) ≡ k
+chunk_count zero xs = refl
+chunk_count (suc k) xs = ap (λ (j : ℕ). suc j) (chunk_count k (drop record_size xs))
+
+chunk_in : (k n : ℕ) (xs d : List ℕ) → n < k → get_or (first_chunks record_size k xs) n d ≡ record_at xs n
+chunk_in zero n xs d l = absurd (omega arith)
+chunk_in (suc k) zero xs d l = refl
+chunk_in (suc k) (suc n) xs d l =
+    let e : record_size + n * record_size ≡ (suc n) * record_size = omega arith in
+    chunk_in k n (drop record_size xs) d (omega arith)
+    ∙ ap (take record_size) (drop-drop (n * record_size) record_size xs ∙ ap (λ (j : ℕ). drop j xs) e)
+
+-- as many as the count says, and each in its place
+pub records_count : (f : List ℕ) (rs : List (List ℕ)) → rs ≡ records_of f → length rs ≡ count_of f
+records_count f rs e = ap (λ (x : List (List ℕ)). length x) e ∙ chunk_count (count_of f) f
+
+pub record_there : (f : List ℕ) (rs : List (List ℕ)) (n : ℕ) → rs ≡ records_of f → n < length rs → n < count_of f
+record_there f rs n e l = omega (arith, l, records_count f rs e)
+
+pub records_end : (f : List ℕ) (rs : List (List ℕ)) (n : ℕ) → rs ≡ records_of f → length rs ≤ n → count_of f ≤ n
+records_end f rs n e l = omega (arith, l, records_count f rs e)
+
+pub record_in : (f : List ℕ) (rs : List (List ℕ)) (n : ℕ) (d : List ℕ) → rs ≡ records_of f → n < length rs → get_or rs n d ≡ record_at f n
+record_in f rs n d e l =
+    ap (λ (x : List (List ℕ)). get_or x n d) e ∙ chunk_in (count_of f) n f d (record_there f rs n e l)
+
+-- what was opened is the record of that number
+pub record_opened : (f : List ℕ) (rs : List (List ℕ)) (n : ℕ) (x : Opened) → rs ≡ records_of f → n < length rs → x ≡ opening (get_or rs n []) → x ≡ opening (record_at f n)
+record_opened f rs n x e l o = o ∙ ap opening (record_in f rs n [] e l)
 
 -- a record ends inside the file
 pub record_ends : (f : List ℕ) (n : ℕ) → n < count_of f → n * record_size + record_size ≤ length f

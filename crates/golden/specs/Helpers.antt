@@ -1,15 +1,16 @@
 -- Meanings of the private helpers' answers. No promise to a user names them.
 -- Beside `Judged` of specs/Record an opened record has its stored length with its mark and fields.
 use Rattle.std.specs.Prelude.{ℕ, ◌+◌, ◌%◌, ◌<◌, Bool, true, false, cond, not, ◌&&◌, List, ◌≡◌, eqb, ltb, get_or, Result, Ok, Err}
+use Rattle.std.specs.Simd.{first_chunks}
 use Rattle.envelope.specs.Fields.{Fields}
 use Rattle.envelope.specs.Layout.{type_place, number_place}
 use Rattle.envelope.specs.Numbers.{two_at, four_at}
 use Rattle.envelope.specs.Refusals.{Refused}
 use Rattle.envelope.specs.Told.{told_envelope}
-use Rattle.golden.specs.File.{record_at}
+use Rattle.golden.specs.File.{count_of, record_at}
 use Rattle.golden.specs.Finding.{NameFields, name_of}
 use Rattle.golden.specs.Pairing.{any_below}
-use Rattle.golden.specs.Record.{head_size, is_retired, stored_length, Judged, judging}
+use Rattle.golden.specs.Record.{record_size, head_size, is_retired, stored_length, Judged, judging}
 use Rattle.golden.specs.Record as judged
 use Rattle.golden.specs.Refusal.{told_golden_refusal}
 use Rattle.golden.specs.declared.record.GoodRecord.{GoodRecord}
@@ -30,6 +31,10 @@ opening r = opened_as (stored_length r) (judging r)
 abbrev pub told_opening : Result GoodRecord Refusal → Opened
 told_opening (Ok g) = holding g.size g.retired (told_envelope g.envelope)
 told_opening (Err r) = bad (told_golden_refusal r)
+
+-- the records of a file, one after the other
+abbrev pub records_of : List ℕ → List (List ℕ)
+records_of f = first_chunks record_size (count_of f) f
 
 -- ---- the name and the mark of a good record as they stand in the record's bytes, by which check looks back
 

@@ -6,9 +6,9 @@ ghost use Rattle.golden.specs.File.{count_of};
 ghost use Rattle.golden.specs.Finding.{name_of, told_name};
 ghost use Rattle.golden.specs.Helpers.{written_name, is_written, written_before, repeats_by, buckets, bucket_of};
 
-use crate::file::{count, open_at, record_at};
+use crate::file::{count, records};
 use crate::finder::Name;
-use crate::record::{GoodRecord, Record, is_retired};
+use crate::record::{GoodRecord, Record, is_retired, open};
 use crate::refusal::{Refusal, RefusedAt};
 use envelope::numbers::{four_bytes, two_bytes};
 
@@ -19,8 +19,8 @@ pub fn check(file: &[u8]) -> Result<usize, RefusedAt>
 {
     let count = count(file)?;
     let mut used = [false; BUCKETS];
-    for n in 0..count {
-        let good = open_at(file, n).map_err(|refusal| RefusedAt { record: n, refusal })?;
+    for (n, bytes) in records(file).iter().enumerate() {
+        let good = open(bytes).map_err(|refusal| RefusedAt { record: n, refusal })?;
         let bucket = bucket_of(Name::from(good));
         if is_repeated(file, good, n, used[bucket]) {
             let refusal = Refusal::NameTaken;
@@ -36,7 +36,7 @@ pub fn check(file: &[u8]) -> Result<usize, RefusedAt>
 fn bucket_of(name: Name) -> usize
     ensures { (result ≡ bucket_of (told_name name)) × (result < buckets) }
 {
-    (name.message_type as usize + name.number as usize) % BUCKETS
+    (usize::from(name.message_type) + name.number as usize) % BUCKETS
 }
 
 // 26 of a good record, behind records that are good. A retired one bears no name here.
@@ -53,7 +53,9 @@ fn name_taken(file: &[u8], name: Name, end: usize, used: bool) -> bool
     requires { (end ≤ count_of file.now) × (used ≡ false → written_before file.now (told_name name) end ≡ false) }
     ensures { result ≡ written_before file.now (told_name name) end }
 {
-    used && (0..end).any(|earlier| is_written(record_at(file, earlier), name))
+    used && records(file)[..end]
+        .iter()
+        .any(|bytes| is_written(bytes, name))
 }
 
 fn is_written(bytes: &[u8; Record::SIZE], name: Name) -> bool

@@ -28,6 +28,7 @@ fn list_positions(golden: &[u8], radio: &[u8], list: &mut [u32]) -> usize
 {
     let end = golden.len().max(radio.len());
     let mut total = 0;
+    // by position: past the end of the shorter one the two differ as well, and `zip` ends there
     for position in 0..end {
         if differ_at(golden, radio, position) {
             note(list, total, position as u32);

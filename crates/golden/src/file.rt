@@ -1,7 +1,7 @@
 // The file rule, the count of a file, and one record of it.
 ghost use Rattle.std.specs.Prelude.{not, ◌&&◌, ◌≡◌, ◌<◌};
 ghost use Rattle.golden.specs.File.{bad_file, count_of, not_there, record_at};
-ghost use Rattle.golden.specs.Helpers.{told_opening, opening};
+ghost use Rattle.golden.specs.Helpers.{told_opening, opening, records_of};
 ghost use Rattle.golden.specs.Listing.{Counts};
 
 use crate::record::{GoodRecord, Record, open};
@@ -15,6 +15,13 @@ pub fn count(file: &[u8]) -> Result<usize, Refusal>
         return Err(Refusal::NotAGoldenFile);
     }
     Ok(file.len() / Record::SIZE)
+}
+
+// The records of a file, the bytes of each. What is left over after the last one belongs to none.
+pub(crate) fn records(file: &[u8]) -> &[[u8; Record::SIZE]]
+    ensures { result.now ≡ records_of file.now }
+{
+    file.as_chunks().0
 }
 
 // Whether it is a golden file that has the record.

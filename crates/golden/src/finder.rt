@@ -3,8 +3,8 @@ ghost use Rattle.std.specs.Prelude.{not, ◌&&◌, ◌≡◌};
 ghost use Rattle.envelope.specs.Told.{told_envelope};
 ghost use Rattle.golden.specs.Finding.{has_name, name_of, told_name, Finds};
 
-use crate::file::{count, open_at};
-use crate::record::GoodRecord;
+use crate::file::{count, records};
+use crate::record::{GoodRecord, open};
 use crate::refusal::Refusal;
 
 // A record's name: what find seeks, and what no two live records of a checked file share. Names are ordered by type, then by number.
@@ -53,9 +53,9 @@ pub fn find(file: &[u8], name: Name) -> Result<Found, RefusedAfter>
     ensures { Finds file.now name result }
 {
     let count = count(file)?;
-    for n in 0..count {
+    for (n, bytes) in records(file).iter().enumerate() {
         let opened = n + 1;
-        let good = open_at(file, n).map_err(|refusal| RefusedAfter { refusal, opened })?;
+        let good = open(bytes).map_err(|refusal| RefusedAfter { refusal, opened })?;
         if is_named(name, good) {
             return Ok(Found { record: n, opened });
         }

@@ -12,7 +12,7 @@ pub fn find_by_halving(file: &[u8], name: Name) -> Result<Found, RefusedAfter>
     let mut first = 0;
     let mut end = count(file)?;
     let mut opened = 0;
-    // halves a range, and counts no index
+    // Halves a range, and counts no index. The library's binary search neither stops at a refusal nor counts what it opens.
     while first < end {
         let middle = (first + end) / 2;
         opened += 1;

@@ -2,8 +2,9 @@
 ghost use Rattle.golden.specs.Listing.{CountsRetired, Enters};
 
 pub use crate::file::count;
-use crate::file::open_at;
+use crate::file::{open_at, records};
 use crate::finder::Name;
+use crate::record::open;
 use crate::refusal::Refusal;
 
 #[derive(Clone, Copy)]
@@ -17,10 +18,10 @@ pub struct Entry {
 pub fn count_retired(file: &[u8]) -> Result<usize, Refusal>
     ensures { CountsRetired file.now result }
 {
-    let count = count(file)?;
+    count(file)?;
     let mut retired = 0;
-    for n in 0..count {
-        if open_at(file, n).is_ok_and(|good| good.retired) {
+    for bytes in records(file) {
+        if open(bytes).is_ok_and(|good| good.retired) {
             retired += 1;
         }
     }

@@ -77,7 +77,7 @@ pub(crate) fn open(bytes: &[u8; Record::SIZE]) -> Result<GoodRecord, Refusal>
 pub(crate) fn stored_length(bytes: &[u8; Record::SIZE]) -> usize
     ensures { result ≡ stored_length bytes.now }
 {
-    (stored_word(bytes) % Record::RETIRED_MARK) as usize
+    usize::from(stored_word(bytes) % Record::RETIRED_MARK)
 }
 
 #[tactic(auto, unfolding(crate::specs::Record::is_retired))]

@@ -58,8 +58,8 @@ impl Refusal {
     {
         let number = number_of(self.row());
         match self {
-            Refusal::RadioRefused(refusal) => Numbers::passing_on(number, refusal),
-            Refusal::MessageRefused(refusal) => Numbers::passing_on(number, refusal),
+            Refusal::RadioRefused(refusal) | Refusal::MessageRefused(refusal) =>
+                Numbers::passing_on(number, refusal),
             _ => Numbers::plainly(number),
         }
     }

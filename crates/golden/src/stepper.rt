@@ -57,6 +57,7 @@ pub fn stored_message(file: &[u8], n: usize) -> Part
     ensures { Stores file.now n result }
 {
     if !has_record(file, n) {
+        // no Option: README and docs/ACCEPTANCE.md name this function, and `Stores` has no bytes here
         return Part { place: 0, size: 0 };
     }
     Part {

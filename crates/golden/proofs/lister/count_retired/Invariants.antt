@@ -4,5 +4,5 @@ use Prim.Native.Nat.{◌≤◌}
 use Rattle.golden.specs.Listing.{retired_below}
 use Rattle.golden.proofs.lister.count_retired.Given as goal
 
-abbrev pub invariant-loop-n : goal.invariant-loop-n
-invariant-loop-n l = (l.retired ≡ retired_below l.file l.n) × (l.retired ≤ l.n)
+abbrev pub invariant-loop-bytes : goal.invariant-loop-bytes
+invariant-loop-bytes l = (l.retired ≡ retired_below l.file l.bytes-index) × (l.retired ≤ l.bytes-index)
