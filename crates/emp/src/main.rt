@@ -24,7 +24,7 @@ use golden::Name;
 use std::io::Input;
 use std::rt::{Env, Files};
 use wording::arguments::Given;
-use wording::commands::{Command, Named, Verb, command_of, unknown_option};
+use wording::commands::{Command, Named, Numbers, Verb, command_of, unknown_option};
 use wording::files::{MOST, ROOM, file_at};
 use wording::telling::complain;
 use wording::{Row, Teller, Told, helping, status};
@@ -72,17 +72,12 @@ fn answer(
     teller: &Teller<'_, impl Env + Files + Input + Print + Eprint>,
     command: Command,
 ) -> Told {
-    let Command {
-        number,
-        further,
-        ..
-    } = command;
-    match command.verb {
-        Verb::Help => help_on(teller, command.files),
-        Verb::Acknowledge => {
-            framing::acknowledge_commid(teller, narrow(number), narrow(further))
+    match (command.verb, command.numbers) {
+        (Verb::Help, _) => help_on(teller, command.files),
+        (Verb::Acknowledge, Some(commids)) => {
+            framing::acknowledge_commid(teller, narrow(commids.first), narrow(commids.last))
         }
-        Verb::Send => sending::send(teller, number),
+        (Verb::Send, Some(resends)) => sending::send(teller, resends.first),
         _ => on_files(teller, command),
     }
 }
@@ -107,8 +102,8 @@ fn on_files(
     };
     let mut buffer = [0u8; ROOM];
     let file = file_at(teller.rt, named.first, most_for(command.verb), &mut buffer)?;
-    match command.verb {
-        Verb::Compare => compare_with(teller, command.number, file, named.last),
+    match (command.verb, command.numbers) {
+        (Verb::Compare, Some(record)) => compare_with(teller, record.first, file, named.last),
         _ => on_file(teller, command, file),
     }
 }
@@ -121,39 +116,38 @@ fn most_for(verb: Verb) -> usize {
     }
 }
 
-// What is left for the last arm is watch.
+// A command that takes numbers has them, by its form. What is left for the last arm is watch.
 fn on_file(
     teller: &Teller<'_, impl Input + Print + Eprint>,
     command: Command,
     file: &[u8],
 ) -> Told {
-    let Command {
-        number,
-        further,
-        ..
-    } = command;
     let golden = GoldenFile { teller, file };
-    match command.verb {
-        Verb::List => golden.list(),
-        Verb::Check => golden.check(),
-        Verb::Find if command.halving => golden.find_by_halving(name_of(command)),
-        Verb::Find => golden.find(name_of(command)),
-        Verb::Read => reading::read_message(teller, file),
-        Verb::Judge => judging::judge_message(teller, file),
-        Verb::Late => lateness::late_message(teller, file, number, further),
-        Verb::Sum => making::sum_file(teller, file),
-        Verb::Make => making::make_record(teller, file),
-        Verb::Retire => making::retire_record(teller, file, number as usize),
-        Verb::Unwrap => framing::unwrap_file(teller, file),
-        Verb::Wrap => framing::wrap_message(teller, narrow(number), file),
+    match (command.verb, command.numbers) {
+        (Verb::List, _) => golden.list(),
+        (Verb::Check, _) => golden.check(),
+        (Verb::Find, Some(name)) if command.halving => golden.find_by_halving(name_of(name)),
+        (Verb::Find, Some(name)) => golden.find(name_of(name)),
+        (Verb::Read, _) => reading::read_message(teller, file),
+        (Verb::Judge, _) => judging::judge_message(teller, file),
+        (Verb::Late, Some(moments)) => {
+            lateness::late_message(teller, file, moments.first, moments.last)
+        }
+        (Verb::Sum, _) => making::sum_file(teller, file),
+        (Verb::Make, _) => making::make_record(teller, file),
+        (Verb::Retire, Some(record)) => {
+            making::retire_record(teller, file, record.first as usize)
+        }
+        (Verb::Unwrap, _) => framing::unwrap_file(teller, file),
+        (Verb::Wrap, Some(commid)) => framing::wrap_message(teller, narrow(commid.first), file),
         _ => watching::watch_beside(teller, file),
     }
 }
 
-fn name_of(command: Command) -> Name {
+fn name_of(numbers: Numbers) -> Name {
     Name {
-        message_type: (command.number % 65_536) as u16,
-        number: narrow(command.further),
+        message_type: (numbers.first % 65_536) as u16,
+        number: narrow(numbers.last),
     }
 }
 

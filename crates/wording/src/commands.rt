@@ -101,21 +101,26 @@ pub struct Named {
     pub last: usize,
 }
 
-// A command with its numbers, of which the first and the last are told, and 0 where it takes none.
+// The numbers of a command: the first of them, and the last.
+#[derive(Clone, Copy)]
+pub struct Numbers {
+    pub first: u64,
+    pub last: u64,
+}
+
+// A command, with the numbers and the files where it takes any.
 #[derive(Clone, Copy)]
 pub struct Command {
     pub verb: Verb,
     pub halving: bool,
-    pub number: u64,
-    pub further: u64,
+    pub numbers: Option<Numbers>,
     pub files: Option<Named>,
 }
 
 // The arguments of a command, so far.
 #[derive(Clone, Copy)]
 struct Taken {
-    number: Option<u64>,
-    further: u64,
+    numbers: Option<Numbers>,
     files: Option<Named>,
     inputs: usize,
 }
@@ -164,7 +169,7 @@ pub fn command_of(rt: &(impl Env + Print + Eprint), verb: Verb, given: &Given) -
 // What is wrong with the words of a command, before any of them is read.
 fn misfit(form: &[u8], verb: Verb, given: &Given) -> Option<Row> {
     let most = pieces(form, BLANK);
-    let least = most.saturating_sub(form.ends_with(b"]") as usize);
+    let least = most.saturating_sub(usize::from(form.ends_with(b"]")));
     if most < given.count() {
         return Some(Row::TooManyWords);
     }
@@ -193,8 +198,7 @@ fn with_arguments(
     Ok(Command {
         verb,
         halving: given.halving,
-        number: taken.number.unwrap_or(0),
-        further: taken.further,
+        numbers: taken.numbers,
         files: taken.files,
     })
 }
@@ -207,10 +211,9 @@ fn take_all(
     names: &[usize],
 ) -> Told<Taken> {
     let mut taken = Taken {
-        number: None,
-        further: 0,
+        numbers: None,
         files: None,
-        inputs: (verb == Verb::Watch) as usize,
+        inputs: usize::from(verb == Verb::Watch),
     };
     for (k, argument) in names.iter().enumerate().skip(1) {
         taken.take(rt, piece(form, BLANK, k), *argument)?;
@@ -235,8 +238,10 @@ impl Taken {
     }
 
     fn take_number(&mut self, n: u64) {
-        self.number = self.number.or(Some(n));
-        self.further = n;
+        self.numbers = Some(Numbers {
+            first: self.numbers.map_or(n, |numbers| numbers.first),
+            last: n,
+        });
     }
 
     fn take_file(&mut self, argument: usize, is_input: bool) {
@@ -244,6 +249,6 @@ impl Taken {
             first: self.files.map_or(argument, |files| files.first),
             last: argument,
         });
-        self.inputs = self.inputs.wrapping_add(is_input as usize);
+        self.inputs = self.inputs.wrapping_add(usize::from(is_input));
     }
 }

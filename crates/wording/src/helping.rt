@@ -59,7 +59,7 @@ fn tell_command(teller: &Teller<'_, impl Print + Eprint>, line: &[u8], whole: bo
             form as u64,
             behind_form as u64,
             does as u64,
-            whole as u64,
+            u64::from(whole),
             behind as u64,
             u64::MAX,
         ],
@@ -99,7 +99,7 @@ pub fn version(teller: &Teller<'_, impl Env + Print + Eprint>) -> Told {
     teller.tell(
         Status::Done,
         Row::Version,
-        &[(size != 0) as u64, 0, size as u64],
+        &[u64::from(size != 0), 0, size as u64],
         kit,
     )
 }

@@ -248,7 +248,7 @@ fn cell_numbers(message: Option<&[u8]>, place: usize, marked: bool) -> [u64; CEL
 
 // How many digits stand behind the first; no file that is taken has a place of more than five.
 fn further_digits(place: usize) -> u64 {
-    place.checked_ilog10().unwrap_or(0).min(4) as u64
+    u64::from(place.checked_ilog10().unwrap_or(0).min(4))
 }
 
 // A byte that is there or not, in brackets or not.
