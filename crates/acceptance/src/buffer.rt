@@ -35,7 +35,7 @@ impl<const ROOM: usize> Buffer<ROOM> {
         self.used = 0;
     }
 
-    pub fn push(&mut self, byte: u8) {
+    fn push(&mut self, byte: u8) {
         if self.used < ROOM {
             self.bytes[self.used] = byte;
             self.used += 1;
