@@ -4,6 +4,7 @@ ghost use Rattle.std.specs.Iterator.{IsFinite};
 
 use console::table::between;
 
+// A length beside fixed memory: no program here takes memory from a heap.
 #[derive(Drop)]
 pub struct Buffer<const ROOM: usize> {
     bytes: [u8; ROOM],
