@@ -4,6 +4,7 @@ ghost use Rattle.std.specs.Iterator.{IsFinite};
 
 use console::table::between;
 
+// A length beside fixed memory: no program here takes memory from a heap.
 #[derive(Drop)]
 pub struct Buffer<const ROOM: usize> {
     bytes: [u8; ROOM],
@@ -35,7 +36,7 @@ impl<const ROOM: usize> Buffer<ROOM> {
         self.used = 0;
     }
 
-    pub fn push(&mut self, byte: u8) {
+    fn push(&mut self, byte: u8) {
         if self.used < ROOM {
             self.bytes[self.used] = byte;
             self.used += 1;

@@ -167,7 +167,7 @@ fn late(out: &mut impl Write, mut line: Line) -> Result<(), Stop> {
     let entry = line.field("entry", EIGHT)?;
     let clock = line.field("clock", EIGHT)?;
     line.answer(out)?;
-    let addressed = ttl.is_some() as u8;
+    let addressed = u8::from(ttl.is_some());
     match morlewen_lateness_from_entry(addressed, ttl.unwrap_or(0), entry, clock) {
         0 => write!(out, " in time")?,
         1 => write!(out, " late")?,

@@ -157,6 +157,7 @@ fn stream(
     feed: &mut Feed,
     bytes: &mut Bytes,
 ) -> Result<(), Stop> {
+    // 0 is all that is left: `between` ends with the bytes, and an Option would become this number again
     let cut = match line.field("cut", EIGHT)? as usize {
         0 => usize::MAX,
         cut => cut,
@@ -165,6 +166,7 @@ fn stream(
     let bytes = bytes.last(&mut line, MOST)?;
     line.answer(out)?;
     let mut from = 0usize;
+    // a count: a `while` would need progress proved out of the packed word, and is no plainer
     for _ in 0..bytes.len() {
         if bytes.len() <= from || feed.is_refused() {
             break;

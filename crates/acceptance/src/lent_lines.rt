@@ -7,6 +7,7 @@ use crate::line::{EIGHT, FOUR, Line, ONE, TWO};
 use crate::stop::Stop;
 use crate::telling::{Answer, Lent, Unread};
 use crate::world::{File, World};
+use console::table::between;
 use exports::envelopes::{morlewen_rewrite, morlewen_write};
 use exports::frames::{morlewen_acknowledge, morlewen_wrap};
 use exports::goldens::{morlewen_make, morlewen_retire};
@@ -71,15 +72,73 @@ fn room(line: &mut Line) -> Result<usize, Stop>
     Ok(line.field("room", ROOM as u64)? as usize)
 }
 
+// `room N of BYTES`, to the end of the line.
+fn room_of<'a>(line: &mut Line, bytes: &'a mut Bytes) -> Result<(usize, &'a [u8]), Stop>
+    ensures { IfOk result (λ given. given.0 ≤ ROOM) }
+{
+    let room = room(line)?;
+    line.word("of")?;
+    Ok((room, bytes.last(line, MOST)?))
+}
+
+// A lent buffer of so many bytes as a call leaves it, and what the call answers.
+#[derive(Drop)]
+struct Loan {
+    buffer: [u8; ROOM],
+    room: usize,
+    answer: Answer,
+}
+
+impl Loan {
+    fn to<F: FnOnce(&mut [u8]) -> u64>(room: usize, call: F) -> Loan
+        requires fits { room ≤ ROOM }
+        requires can { F.IsAlwaysCallable call }
+    {
+        let mut buffer = [BLANK; ROOM];
+        let answer = Answer(call(&mut buffer[..room]));
+        Loan {
+            buffer,
+            room,
+            answer,
+        }
+    }
+
+    fn lent(&self) -> Lent<'_> {
+        Lent(between(&self.buffer, 0, self.room))
+    }
+
+    // What is done in a word, with the size where there is one.
+    fn tell(&self, out: &mut impl Write, done: &str) -> Result<(), Stop> {
+        match self.answer.outcome() {
+            Ok(0) => write!(out, " {done}{}", self.lent())?,
+            Ok(size) => write!(out, " {done} {size}{}", self.lent())?,
+            Err(refused) => write!(out, "{refused}{}", self.lent())?,
+        }
+        Ok(())
+    }
+
+    // Of a message that is written, where a refusal by reading is told apart.
+    fn tell_written(&self, out: &mut impl Write) -> Result<(), Stop> {
+        match self.answer.outcome() {
+            Ok(size) => write!(out, " wrote {size}")?,
+            Err(refused) if refused.number <= LAST_READING => write!(
+                out,
+                " unread{}",
+                Unread(refused)
+            )?,
+            Err(refused) => write!(out, " refused {}", refused.number)?,
+        }
+        write!(out, "{}", self.lent())?;
+        Ok(())
+    }
+}
+
 fn wrap(out: &mut impl Write, mut line: Line, bytes: &mut Bytes) -> Result<(), Stop> {
     let commid = line.field("commid", FOUR)? as u32;
-    let room = room(&mut line)?;
-    line.word("of")?;
-    let message = bytes.last(&mut line, MOST)?;
+    let (room, message) = room_of(&mut line, bytes)?;
     line.answer(out)?;
-    let mut buffer = [BLANK; ROOM];
-    let lent = &mut buffer[..room];
-    framed(out, Answer(morlewen_wrap(message, commid, lent)), lent)
+    let loan = Loan::to(room, |lent| morlewen_wrap(message, commid, lent));
+    loan.tell(out, "wrote")
 }
 
 fn acknowledge(out: &mut impl Write, mut line: Line) -> Result<(), Stop> {
@@ -87,72 +146,34 @@ fn acknowledge(out: &mut impl Write, mut line: Line) -> Result<(), Stop> {
     let acknowledged = line.field("of", FOUR)? as u32;
     let room = room(&mut line)?;
     line.answer(out)?;
-    let mut buffer = [BLANK; ROOM];
-    let lent = &mut buffer[..room];
-    framed(
-        out,
-        Answer(morlewen_acknowledge(commid, acknowledged, lent)),
-        lent,
-    )
-}
-
-fn framed(out: &mut impl Write, answer: Answer, lent: &[u8]) -> Result<(), Stop> {
-    match answer.outcome() {
-        Ok(size) => write!(out, " wrote {size}{}", Lent(lent))?,
-        Err(refused) => write!(out, "{refused}{}", Lent(lent))?,
-    }
-    Ok(())
+    let loan = Loan::to(
+        room,
+        |lent| morlewen_acknowledge(commid, acknowledged, lent),
+    );
+    loan.tell(out, "wrote")
 }
 
 fn rewrite(out: &mut impl Write, mut line: Line, bytes: &mut Bytes) -> Result<(), Stop> {
-    let room = room(&mut line)?;
-    line.word("of")?;
-    let message = bytes.last(&mut line, MOST)?;
+    let (room, message) = room_of(&mut line, bytes)?;
     line.answer(out)?;
-    let mut buffer = [BLANK; ROOM];
-    let lent = &mut buffer[..room];
-    written(out, Answer(morlewen_rewrite(message, lent)), lent)
-}
-
-fn written(out: &mut impl Write, answer: Answer, lent: &[u8]) -> Result<(), Stop> {
-    match answer.outcome() {
-        Ok(size) => write!(out, " wrote {size}")?,
-        Err(refused) if refused.number <= LAST_READING => write!(
-            out,
-            " unread{}",
-            Unread(refused)
-        )?,
-        Err(refused) => write!(out, " refused {}", refused.number)?,
-    }
-    write!(out, "{}", Lent(lent))?;
-    Ok(())
+    let loan = Loan::to(room, |lent| morlewen_rewrite(message, lent));
+    loan.tell_written(out)
 }
 
 fn make(out: &mut impl Write, mut line: Line, bytes: &mut Bytes) -> Result<(), Stop> {
-    let room = room(&mut line)?;
-    line.word("of")?;
-    let message = bytes.last(&mut line, MOST)?;
+    let (room, message) = room_of(&mut line, bytes)?;
     line.answer(out)?;
-    let mut buffer = [BLANK; ROOM];
-    let lent = &mut buffer[..room];
-    match Answer(morlewen_make(message, lent)).outcome() {
-        Ok(_) => write!(out, " made{}", Lent(lent))?,
-        Err(refused) => write!(out, "{refused}{}", Lent(lent))?,
-    }
-    Ok(())
+    let loan = Loan::to(room, |lent| morlewen_make(message, lent));
+    loan.tell(out, "made")
 }
 
 fn retire(out: &mut impl Write, mut line: Line, file: &File) -> Result<(), Stop> {
     let record = line.field("record", EIGHT)? as usize;
     let room = room(&mut line)?;
     line.answer(out)?;
-    let mut buffer = [BLANK; ROOM];
-    let lent = &mut buffer[..room];
-    match Answer(morlewen_retire(file.bytes(), record, lent)).outcome() {
-        Ok(_) => write!(out, " done{}", Lent(lent))?,
-        Err(refused) => write!(out, "{refused}{}", Lent(lent))?,
-    }
-    Ok(())
+    let file = file.bytes();
+    let loan = Loan::to(room, |lent| morlewen_retire(file, record, lent));
+    loan.tell(out, "done")
 }
 
 // What a message is written from.
@@ -192,9 +213,9 @@ impl Given {
         })
     }
 
-    fn write(&self, bytes: &Bytes, lent: &mut [u8]) -> Answer {
+    fn write(&self, bytes: &Bytes, lent: &mut [u8]) -> u64 {
         let routing = self.routing.unwrap_or(Routing { ttl: 0, qos: 0 });
-        Answer(morlewen_write(
+        morlewen_write(
             self.message_type,
             self.version,
             self.flags,
@@ -208,7 +229,7 @@ impl Given {
             bytes.of(self.body),
             self.integrity,
             lent,
-        ))
+        )
     }
 }
 
@@ -233,7 +254,6 @@ fn write(out: &mut impl Write, mut line: Line, bytes: &mut Bytes) -> Result<(), 
     let given = Given::read(&mut line, bytes)?;
     let room = room(&mut line)?;
     line.answer(out)?;
-    let mut buffer = [BLANK; ROOM];
-    let lent = &mut buffer[..room];
-    written(out, given.write(bytes, lent), lent)
+    let loan = Loan::to(room, |lent| given.write(bytes, lent));
+    loan.tell_written(out)
 }

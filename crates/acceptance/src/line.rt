@@ -155,7 +155,7 @@ pub enum Misfit {
     Size,
 }
 
-// A number of digits alone, and no more than the most.
+// A number of digits alone, and no more than the most. Console's `decimal_of` takes no more than 20 digits, and does not tell form from size.
 pub fn decimal(word: &[u8], most: u64) -> Result<u64, Misfit>
     ensures { IfOk result (λ n. n ≤ most) }
 {

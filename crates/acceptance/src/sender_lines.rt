@@ -48,7 +48,7 @@ pub fn sender_line(
 ) -> Result<(), Stop> {
     match command {
         SenderCommand::Start => start(out, line, sender)?,
-        SenderCommand::Event(event) => tell_after(out, event, line, sender)?,
+        SenderCommand::Event(event) => one_event(out, event, line, sender)?,
     }
     tell_flight(out, sender)?;
     for waiting in &sender.waiting {
@@ -67,7 +67,7 @@ fn start(out: &mut impl Write, mut line: Line, sender: &mut Sender) -> Result<()
     Ok(())
 }
 
-fn tell_after(
+fn one_event(
     out: &mut impl Write,
     event: Event,
     mut line: Line,

@@ -5,7 +5,7 @@ use exports::envelopes::FIELDS;
 use std::fmt;
 use std::fmt::Display;
 
-// The word that a call of the library answers.
+// The word that a call of the library answers: numbers packed for the C interface, which has no enums.
 #[derive(Clone, Copy)]
 pub struct Answer(pub u64);
 

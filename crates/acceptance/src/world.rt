@@ -12,6 +12,7 @@ pub type File = Buffer<FILE_ROOM>;
 // The bytes that a feed keeps.
 const KEPT: usize = 510;
 
+// As C lends it: bytes and numbers in storage of the caller's, no value of the library.
 #[derive(Drop)]
 pub struct Feed {
     pub kept: [u8; KEPT],
@@ -21,6 +22,7 @@ pub struct Feed {
 // The places of those that wait.
 const PLACES: usize = 16;
 
+// As C lends it, too.
 #[derive(Drop)]
 pub struct Sender {
     pub waiting: [u32; PLACES],
