@@ -32,3 +32,8 @@ verdicts_in_order j = j.least ∷ j.version ∷ j.flags ∷ j.variable_size ∷ 
 abbrev pub NumbersAFault : ℕ → Option Fault → Type 0
 NumbersAFault n (Some f) = told_fault f ≡ n
 NumbersAFault n None = n ≢ 0 → 8 ≤ n
+
+-- the numbers, where there are any, in place of those before
+abbrev pub put_over : Option (List ℕ) → List ℕ → List ℕ
+put_over (Some numbers) entry = numbers
+put_over None entry = entry

@@ -2,7 +2,7 @@
 // The numbers for kinds, here and in the other modules, are the C interface (include/morlewen.h).
 ghost use Rattle.std.specs.Prelude.{◌≡◌};
 ghost use Rattle.envelope.specs.Refusals.{told_numbers};
-ghost use Rattle.exports.specs.Helpers.{told_slots};
+ghost use Rattle.exports.specs.Helpers.{told_slots, put_over};
 ghost use Rattle.exports.specs.Word.{slots, word, numbers_slots, FitsWord};
 
 use envelope::Numbers;
@@ -49,5 +49,14 @@ impl Slots {
             + u64::from(self.reading) * 256
             + (self.count as u64) * 65536
             + (self.value as u64) * 4294967296
+    }
+}
+
+// Numbers into what is lent; where there are none, it stays as it was.
+pub(crate) fn put<const N: usize>(numbers: Option<[u64; N]>, lent: &mut [u64; N])
+    ensures { lent.new ≡ put_over numbers.entry lent.old }
+{
+    if let Some(numbers) = numbers {
+        *lent = numbers;
     }
 }

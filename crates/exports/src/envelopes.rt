@@ -3,10 +3,10 @@ ghost use Rattle.std.specs.Prelude.{◌≡◌};
 ghost use Rattle.envelope.specs.Rewriting.{told_rewriting};
 ghost use Rattle.envelope.specs.Told.{told_addressing, told_integrity, told_envelope, told};
 ghost use Rattle.envelope.specs.Writing.{told_routing, told_writing};
-ghost use Rattle.exports.specs.Envelopes.{end_numbers, kind_number, held_number, field_numbers, read_slots, fields_after, ReadsForC, routing_for, write_slots, given_for_c, WritesForC, rewrite_slots, RewritesForC};
+ghost use Rattle.exports.specs.Envelopes.{end_numbers, kind_number, held_number, field_numbers, read_slots, ReadsForC, routing_for, write_slots, given_for_c, WritesForC, rewrite_slots, RewritesForC};
 ghost use Rattle.exports.specs.Helpers.{told_ends, told_slots};
 
-use crate::answers::Slots;
+use crate::answers::{Slots, put};
 use envelope::{
     Addressing, Envelope, Given, Header, Integrity, Numbers, Refusal, RewriteFault, Routing,
     WriteFault, read, rewrite, write,
@@ -31,7 +31,7 @@ pub fn morlewen_read(bytes: &[u8], fields: &mut [u64; FIELDS]) -> u64
     ensures { ReadsForC bytes.now fields.old result fields.new }
 {
     let reading = read(bytes);
-    put_fields(reading, fields);
+    put(reading.ok().map(numbers_of), fields);
     read_slots(reading).word()
 }
 
@@ -83,15 +83,6 @@ fn read_slots(reading: Result<Envelope, Refusal>) -> Slots
     match reading {
         Ok(_) => Slots::done(0, 0),
         Err(refusal) => Slots::refused(Numbers::from(refusal), 0),
-    }
-}
-
-// This, `put_found` and `put_message` stay three: an `Option<Envelope>` made for one form takes a match as long as each.
-fn put_fields(reading: Result<Envelope, Refusal>, fields: &mut [u64; FIELDS])
-    ensures { fields.new ≡ fields_after (told reading) fields.old }
-{
-    if let Ok(accepted) = reading {
-        *fields = numbers_of(accepted);
     }
 }
 

@@ -159,6 +159,7 @@ fn found_slots(found: Result<Option<Message>, Refusal>, used: usize) -> Slots
     }
 }
 
+// By `put` of `found.ok().flatten().map(..)` it was tried: the proof of `morlewen_feed_take` did not close.
 fn put_found(found: Result<Option<Message>, Refusal>, fields: &mut [u64; FIELDS])
     ensures { fields.new ≡ fields_found (told_found found) fields.old }
 {

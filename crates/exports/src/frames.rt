@@ -59,6 +59,7 @@ fn put_commids(unwrapped: Result<Unwrapped, Refusal>, commids: &mut [u32; COMMID
     }
 }
 
+// For `put` the one variant would go into an Option first: no plainer.
 fn put_message(unwrapped: Result<Unwrapped, Refusal>, fields: &mut [u64; FIELDS])
     ensures { fields.new ≡ message_fields (told_unwrapped unwrapped) fields.old }
 {

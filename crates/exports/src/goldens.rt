@@ -1,5 +1,5 @@
 // Golden files, for C. The file is only read.
-ghost use Rattle.std.specs.Prelude.{◌≡◌};
+ghost use Rattle.std.specs.Prelude.{Ok, [], ◌≡◌};
 ghost use Rattle.golden.specs.Checking.{told_checking};
 ghost use Rattle.golden.specs.Comparing.{told_comparison};
 ghost use Rattle.golden.specs.Finding.{told_finding};
@@ -11,7 +11,7 @@ ghost use Rattle.golden.specs.Stepping.{told_reached};
 ghost use Rattle.exports.specs.Goldens.{name_for, count_slots, CountsForC, CountsRetiredForC, check_slots, ChecksForC, find_slots, FindsForC, HalvesForC, order_slots, OrdersForC, line_slots, line_after, EntersForC, step_slots, part_after, StepsForC, compare_slots, ComparesForC, make_slots, MakesForC, retire_slots, RetiresForC};
 ghost use Rattle.exports.specs.Helpers.{told_slots};
 
-use crate::answers::Slots;
+use crate::answers::{Slots, put};
 use envelope::Numbers;
 use golden::{
     Entry, Found, Name, Refusal, RefusedAfter, RefusedAt, Stored, ascending, check, compare, count,
@@ -71,7 +71,7 @@ pub fn morlewen_line(file: &[u8], record: usize, line: &mut [u64; LINE]) -> u64
     ensures { EntersForC file.now «record» line.old result line.new }
 {
     let found = entry_at(file, record);
-    put_line(found, line);
+    put(found.ok().map(line_numbers), line);
     line_slots(found).word()
 }
 
@@ -153,16 +153,14 @@ fn line_slots(found: Result<Entry, Refusal>) -> Slots
     }
 }
 
-fn put_line(found: Result<Entry, Refusal>, line: &mut [u64; LINE])
-    ensures { line.new ≡ line_after (told_entry found) line.old }
+fn line_numbers(entry: Entry) -> [u64; LINE]
+    ensures { result ≡ line_after (told_entry (Ok entry)) [] }
 {
-    if let Ok(entry) = found {
-        *line = [
-            u64::from(entry.name.message_type),
-            u64::from(entry.name.number),
-            entry.size as u64,
-        ];
-    }
+    [
+        u64::from(entry.name.message_type),
+        u64::from(entry.name.number),
+        entry.size as u64,
+    ]
 }
 
 fn step_slots(reached: Result<Option<Stored>, Refusal>, on: usize) -> Slots

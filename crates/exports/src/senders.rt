@@ -3,10 +3,10 @@
 ghost use Rattle.std.specs.Prelude.{◌≡◌};
 ghost use Rattle.sender.specs.Queue.{submit, ack, nak, time_out};
 ghost use Rattle.sender.specs.Told.{told_next, told_answer, told_bench, told_event, told_flight, told_start};
-ghost use Rattle.exports.specs.Senders.{slot_for, beside_for, flight_commid, flight_number, beside_numbers, next_slots, reply_slots, numbers_after, sender_lent, AnswersForC, start_slots, start_numbers, StartsForC, CountsWaitingForC, TellsFlightForC};
+ghost use Rattle.exports.specs.Senders.{slot_for, beside_for, flight_commid, flight_number, beside_numbers, next_slots, reply_slots, numbers_after, sender_lent, AnswersForC, start_slots, StartsForC, CountsWaitingForC, TellsFlightForC};
 ghost use Rattle.exports.specs.Word.{word};
 
-use crate::answers::Slots;
+use crate::answers::{Slots, put};
 use envelope::Numbers;
 use sender::{Answer, Bench, Event, Flight, Refusal};
 
@@ -17,7 +17,7 @@ pub fn morlewen_sender_start(numbers: &mut [u64; BESIDE], resends: u64) -> u64
     ensures { StartsForC resends numbers.old result numbers.new }
 {
     let start = Bench::new(resends);
-    put_start(start, numbers);
+    put(start.ok().map(bench_numbers), numbers);
     start_word(start)
 }
 
@@ -164,14 +164,6 @@ fn next_word(next: Option<u32>, alone: u8, before: u8) -> u64
     match next {
         None => Slots::done(usize::from(alone), 0).word(),
         Some(commid) => Slots::done(usize::from(before), commid as usize).word(),
-    }
-}
-
-fn put_start(start: Result<Bench, Refusal>, numbers: &mut [u64; BESIDE])
-    ensures { numbers.new ≡ start_numbers (told_start start) numbers.old }
-{
-    if let Ok(bench) = start {
-        *numbers = bench_numbers(bench);
     }
 }
 
