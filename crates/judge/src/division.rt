@@ -1,8 +1,8 @@
 // The CRC by long division, one binary digit after the other, as it is done by hand.
 // It takes no step of the crate `sum`; that both come to the same is proved.
-ghost use Rattle.std.specs.Prelude.{◌≡◌, ◌<◌};
+ghost use Rattle.std.specs.Prelude.{◌≡◌, ◌<◌, get_or};
 ghost use Rattle.sum.specs.Detection.{bits_of_byte};
-ghost use Rattle.judge.specs.Division.{turned, bring_down, remainder, Divides};
+ghost use Rattle.judge.specs.Division.{divided_bytes, bring_down, remainder, Divides};
 
 // The polynomial's 33 digits, the highest power first.
 const DIVISOR: u64 = 0x1_04C1_1DB7;
@@ -14,20 +14,24 @@ const ALL_ONES: u32 = 0xFFFF_FFFF;
 const ROOM: usize = 4;
 
 // The remainder of the message, read backwards and inverted: its CRC. The division has the highest power first, a CRC has it last.
+#[tactic(auto, using(crate::proofs::StepLaws::bytes_down), unfolding(crate::specs::Division::divided))]
 pub fn divide(bytes: &[u8]) -> u32
     ensures { Divides bytes.now result }
 {
-    let left = bytes.iter().chain(&[0; ROOM]).enumerate().fold(
-        0,
-        |left, (i, byte)| byte_down(left, dividend_byte(i, *byte)),
-    );
+    let mut left = 0u32;
+    // by place: of a chain with four zeros the compiler keeps those as constants in the archive
+    for i in 0..bytes.len() + ROOM {
+        left = byte_down(left, dividend_byte(bytes, i));
+    }
     left.reverse_bits() ^ ALL_ONES
 }
 
-// Byte i of what is divided, from byte i of the message and its zeros: the first four are inverted.
-fn dividend_byte(i: usize, byte: u8) -> u8
-    ensures { result ≡ turned i byte }
+// Byte i of what is divided: the message, then four zeros, and the first four of all inverted.
+#[tactic(auto, using(crate::proofs::StepLaws::dividend_bytes))]
+fn dividend_byte(bytes: &[u8], i: usize) -> u8
+    ensures { result ≡ get_or (divided_bytes bytes.now) i 0 }
 {
+    let byte = bytes.get(i).copied().unwrap_or(0);
     if i < ROOM { 255 - byte } else { byte }
 }
 
