@@ -30,7 +30,8 @@ impl Event {
 }
 
 impl Bench {
-    // Whatever comes next.
+    // Whatever comes next. Always inlined: a caller may know which event it is.
+    #[inline(always)]
     pub fn take(
         &mut self,
         waiting: &mut [u32; Bench::PLACES],
