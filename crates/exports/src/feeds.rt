@@ -53,6 +53,8 @@ pub fn morlewen_feed_message(kept: &[u8; Feed::ROOM], numbers: &[u64; NUMBERS]) 
 }
 
 // What stands beside the bytes kept, by its two numbers.
+// Always inlined: each caller wants a part of it, and by a call the whole goes through memory.
+#[inline(always)]
 fn beside_in(numbers: &[u64; NUMBERS]) -> Beside
     ensures { (kept : List ℕ) → state_of kept result ≡ state_for kept numbers.now }
 {
@@ -69,6 +71,8 @@ fn beside_numbers(beside: Beside) -> [u64; NUMBERS]
     [beside.count as u64, standing_number(beside.standing)]
 }
 
+// Always inlined, as `beside_in`.
+#[inline(always)]
 fn standing_of(number: u64, count: usize) -> Standing
     ensures { told_standing result ≡ standing_for number count }
 {

@@ -31,10 +31,14 @@ fn grow(kept: &mut [u8; Feed::ROOM], count: usize, piece: &[u8]) -> Step
     requires { (count < room) × (0 < length piece.now) }
     ensures { told_step result kept.new ≡ taking (opened kept.old count) piece.now }
 {
-    match announced(&kept[..count]) {
-        Ok(Some(whole)) if count < whole => fill(kept, count, whole, 0, piece),
-        _ => through_heading(kept, count, piece),
+    // fewer announce nothing yet: not asked twice for a piece of one byte
+    if Envelope::HEADER_SIZE <= count {
+        match announced(&kept[..count]) {
+            Ok(Some(whole)) if count < whole => return fill(kept, count, whole, 0, piece),
+            _ => {}
+        }
     }
+    through_heading(kept, count, piece)
 }
 
 // The bytes up to the 17th, or one byte, and then those up to the announced length.
