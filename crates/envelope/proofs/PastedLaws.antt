@@ -1,7 +1,7 @@
 -- A list with parts put into it, one after the other: what was put in front stays, and what stands behind is as it was.
 -- `pasted` of specs/Helpers is what the writer's steps promise.
-use Rattle.std.proofs.Common.{◌≡◌, ℕ, ◌+◌, ◌≤◌, List, [], ◌∷◌, ◌++◌, length, take, drop, ap, append_assoc, add_assoc, arith, length-append, length-take-le, drop-drop, take_at}
-use lib.Seq.{drop-append-add, paste-zero}
+use Rattle.std.proofs.Common.{◌≡◌, ℕ, suc, ◌+◌, ◌<◌, ◌≤◌, List, [], ◌∷◌, ◌++◌, length, get_or, take, drop, set, ap, append_assoc, add_assoc, arith, length-append, length-take-le, drop-cons, drop-drop, take_at}
+use lib.Seq.{drop-append-add, set_at, append_snoc, paste-zero}
 use Rattle.envelope.specs.Helpers.{pasted}
 
 -- what stands up to the end of the part
@@ -17,6 +17,15 @@ pasted_more d place p q h =
     let l = front_length d place p (omega arith) in
     let e : place + length p + length q ≡ length f + length q = omega arith in
     rw (take_at f r (place + length p) l, e, drop-append-add f r (length q), drop-drop (length q) (place + length p) d, append_assoc (take place d) p q, length-append p q, add_assoc place (length p) (length q))
+
+pub pasted-set : (d : List ℕ) (place : ℕ) (p : List ℕ) (x : ℕ) → place + length p < length d
+    → set (pasted d place p) (place + length p) x ≡ pasted d place (p ++ x ∷ [])
+unfolding pasted
+pasted-set d place p x h =
+    let f = take place d ++ p in
+    let e : place + (length p + 1) ≡ suc (place + length p) = omega arith in
+    rw (drop-cons d (place + length p) 0 h, set_at f (get_or d (place + length p) 0) (drop (suc (place + length p)) d) x (place + length p) (front_length d place p (omega arith)))
+    (rw (length-append p (x ∷ []), e, ← append_assoc (take place d) p (x ∷ []), append_snoc f x (drop (suc (place + length p)) d)))
 
 -- nothing put in
 pub pasted_none : (d : List ℕ) (place : ℕ) → d ≡ pasted d place []

@@ -133,8 +133,9 @@ impl Given<'_> {
         match self.routing {
             None => place,
             Some(routing) => {
-                let qos_place = put(buffer, place, &two_digits(routing.ttl));
-                let source_place = put(buffer, qos_place, &two_digits(routing.qos));
+                let ttl = two_digits(routing.ttl);
+                let qos = two_digits(routing.qos);
+                let source_place = put(buffer, place, &[ttl[0], ttl[1], qos[0], qos[1]]);
                 let destination_place = put_end(buffer, source_place, self.source);
                 put_end(buffer, destination_place, self.destination)
             }
@@ -142,11 +143,13 @@ impl Given<'_> {
     }
 }
 
+// Always inlined: an empty end needs no search, and then there is no call.
+#[inline(always)]
 #[tactic(auto, unfolding(crate::specs::Writing::bad_end))]
 fn bad_end(end: &[u8]) -> bool
     ensures { result ≡ bad_end end.now }
 {
-    Envelope::LARGEST_ADDRESS <= end.len() || end.contains(&0)
+    Envelope::LARGEST_ADDRESS <= end.len() || !end.is_empty() && end.contains(&0)
 }
 
 // Rule 14.
@@ -166,14 +169,20 @@ fn put_end(buffer: &mut [u8], place: usize, end: &[u8]) -> usize
     ensures { (result ≡ place + (length end.now + 1)) × (buffer.new ≡ pasted buffer.old place (end.now ++ 0 ∷ [])) }
 {
     let zero = put(buffer, place, end);
-    put(buffer, zero, &[0])
+    buffer[zero] = 0;
+    zero + 1
 }
 
 // Copies a part into the buffer from a place, and answers the place after it.
+// Always inlined, and nothing done for an empty part: most parts are of a known size, and then there is no call.
+#[inline(always)]
 fn put(buffer: &mut [u8], place: usize, part: &[u8]) -> usize
     requires { place + length part.now ≤ length buffer.old }
     ensures { (result ≡ place + length part.now) × (buffer.new ≡ pasted buffer.old place part.now) }
 {
+    if part.is_empty() {
+        return place;
+    }
     let end = place + part.len();
     buffer[place..end].copy_from_slice(part);
     end
