@@ -1,15 +1,14 @@
 -- Names and pairs: two live records of one name pair up, and the search below a number.
 -- Inductions on the number.
 use mathlib.Core.Bool.{Bool, true, false, not}
-use mathlib.Core.List.{List, []}
 use mathlib.Core.Path.{◌≡◌, refl, ap, sym, ◌∙◌}
-use Prim.Native.Nat.{ℕ, zero, suc, ◌≤◌, ◌<◌}
+use Prim.Native.Nat.{ℕ, zero, suc, ◌<◌}
 use native.Mathlib.Decide.{dec_lt}
 use native.Mathlib.Omega.{arith}
-use lib.ListN.{length, take, get_or}
-use Rattle.std.proofs.lemmas.List.{get_or-take, length-take-le}
+use Rattle.std.proofs.Common.{zero-add}
+use Rattle.std.proofs.lemmas.List.FromFn.{get_or-range_with_len, length-range_with_len}
 use Rattle.std.proofs.lemmas.List.Recursion.{or_is}
-use Rattle.std.specs.List.{list_any}
+use Rattle.std.specs.List.{list_any, range_with_len}
 use Rattle.envelope.proofs.BoolLaws.{neither, and-false, true_is_not_false}
 use Rattle.envelope.specs.Fields.{Fields}
 use Rattle.golden.specs.Finding.{NameFields}
@@ -72,16 +71,14 @@ unfolding any_below
 below_same p q zero h = refl
 below_same p q (suc n) h = rw (h n (omega arith), below_same p q n (λ i l. h i (omega arith)))
 
--- one of the first n items, where item i passes as number i does
-pub any_of_first : (test : List ℕ → Bool) (p : ℕ → Bool) (xs : List (List ℕ)) (n : ℕ) → n ≤ length xs
-    → ((i : ℕ) → i < n → test (get_or xs i []) ≡ p i) → list_any test (take n xs) ≡ any_below p n
-any_of_first test p xs n room same =
-    let size = length-take-le n xs room in
+-- one of the numbers from 0 up to n, as an iterator tries them
+pub any_of_range : (p : ℕ → Bool) (n : ℕ) → list_any p (range_with_len 0 n) ≡ any_below p n
+any_of_range p n =
     sym
-    (or_is (list_any test) test refl (λ x xs. refl) (take n xs) [] (any_below p n)
+    (or_is (list_any p) p refl (λ x xs. refl) (range_with_len 0 n) 0 (any_below p n)
     (λ e.
     let b = any_below_lem p n e in
-    (b.number, omega (arith, b.within, size), ap test (get_or-take n xs b.number [] b.within) ∙ same b.number b.within ∙ b.passes))
+    (b.number, rw (length-range_with_len 0 n) b.within, rw (get_or-range_with_len 0 n b.number 0 b.within) (rw (zero-add b.number) b.passes)))
     (λ e i l.
-    let k : i < n = omega (arith, l, size) in
-    ap test (get_or-take n xs i [] k) ∙ same i k ∙ none_below p n e i k))
+    let k : i < n = rw (length-range_with_len 0 n) at l in
+    rw (get_or-range_with_len 0 n i 0 k) (rw (zero-add i) (none_below p n e i k))))

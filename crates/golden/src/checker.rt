@@ -6,7 +6,7 @@ ghost use Rattle.golden.specs.File.{count_of};
 ghost use Rattle.golden.specs.Finding.{name_of, told_name};
 ghost use Rattle.golden.specs.Helpers.{written_name, is_written, written_before, repeats_by, buckets, bucket_of};
 
-use crate::file::{count, records};
+use crate::file::{count, record_at, records};
 use crate::finder::Name;
 use crate::record::{GoodRecord, Record, is_retired, open};
 use crate::refusal::{Refusal, RefusedAt};
@@ -53,9 +53,8 @@ fn name_taken(file: &[u8], name: Name, end: usize, used: bool) -> bool
     requires { (end ≤ count_of file.now) × (used ≡ false → written_before file.now (told_name name) end ≡ false) }
     ensures { result ≡ written_before file.now (told_name name) end }
 {
-    used && records(file)[..end]
-        .iter()
-        .any(|bytes| is_written(bytes, name))
+    // by number, as the definition counts the earlier ones
+    used && (0..end).any(|earlier| is_written(record_at(file, earlier), name))
 }
 
 fn is_written(bytes: &[u8; Record::SIZE], name: Name) -> bool

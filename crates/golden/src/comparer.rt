@@ -17,7 +17,8 @@ pub fn compare(file: &[u8], n: usize, radio: &[u8], list: &mut [u32]) -> Result<
         return Err(Refusal::RecordRetired);
     }
     read(radio).map_err(Refusal::RadioRefused)?;
-    Ok(list_positions(stored.part.slice(file), radio, list))
+    let total = list_positions(stored.part.slice(file), radio, list);
+    Ok(total)
 }
 
 // Puts the differing positions into the list, as far as it has room, and answers how many there are: C lends the list, and the total may be past its end.

@@ -57,12 +57,12 @@ accepts c =
     let k = kept_ok _ _ _ c.map_err.ensures.cases _ c.in_ok-map_err.was in
     sym (ap told (sym k) ∙ c.read.ensures)
 
-pub list_positions-requires : goal.list_positions-requires
-list_positions-requires c =
-    let a = answered (goal.at.list_positions-requires c).In_ok-stored in
-    let golden = message_is (goal.at.list_positions-requires c).After-slice in
+pub list_positions-total-requires : goal.list_positions-total-requires
+list_positions-total-requires c =
+    let a = answered (goal.at.list_positions-total-requires c).In_ok-stored in
+    let golden = message_is (goal.at.list_positions-total-requires c).After-slice in
     let size = good_size _ _ _ _ a.judged in
-    let radio = accepted_most _ _ (λ k. (c.type_inv.radio k).fits) (accepts (goal.at.list_positions-requires c).In_ok-map_err) in
+    let radio = accepted_most _ _ (λ k. (c.type_inv.radio k).fits) (accepts (goal.at.list_positions-total-requires c).In_ok-map_err) in
     (rw golden (omega (arith, length-take (stored_length (record_at c.args.file.now c.args.n)) (drop head_size (record_at c.args.file.now c.args.n)))), omega (arith, radio))
 
 pub returns-in_err-map_err : goal.returns-in_err-map_err
@@ -77,4 +77,4 @@ pub returns : goal.returns
 returns c =
     compares_same _ _ _ _ _ _ _ (message_is (goal.at.returns c).After-slice)
     (live (goal.at.returns c).Else-stored ∙ ap (with_radio _ _) (accepts (goal.at.returns c).In_ok-map_err))
-    (totalled _ _ _ _ c.list_positions.ensures.0 c.list_positions.ensures.1)
+    (totalled _ _ _ _ c.list_positions-total.ensures.0 c.list_positions-total.ensures.1)
