@@ -30,6 +30,8 @@ pub struct Sending<'a, R> {
     pub(crate) status: Status,
 }
 
+// Never inlined: the ledger's half a mebibyte would be in the frame that every command has.
+#[inline(never)]
 pub fn send(teller: &Teller<'_, impl Input + Print + Eprint>, resends: u64) -> Told {
     match Bench::new(resends) {
         Ok(bench) => {
