@@ -131,7 +131,7 @@ fn verdict(place: usize, broken: bool) -> Verdict
 fn bad_flags(flags: u8) -> bool
     ensures { result ≡ bad_flags flags }
 {
-    flags / 32 != 0 || kind_in(flags) == Kind::Unassigned
+    flags / 32 != 0 || matches!(kind_in(flags), Kind::Unassigned)
 }
 
 #[tactic(auto, unfolding(envelope::specs::Heading::bad_variable_size))]
