@@ -1,8 +1,10 @@
 -- `comparer::list_positions`: the last position leaves the definition's list.
-use mathlib.Core.Path.{◌∙◌}
-use Rattle.golden.proofs.ComparingLaws.{marked, passed_over, longer_is}
+use mathlib.Core.Path.{◌≡◌, ◌∙◌}
+use native.Mathlib.Omega.{arith}
+use Rattle.std.proofs.lemmas.Bool.Decides.{nat_tests}
+use Rattle.golden.proofs.ComparingLaws.{marked, passed_over}
 use Rattle.golden.proofs.PositionLaws.{going_on, going_end}
-use Rattle.golden.specs.Comparing.{differing}
+use Rattle.golden.specs.Comparing.{differing, longer}
 use Rattle.golden.proofs.comparer.list_positions.Goals as goal
 use Rattle.golden.proofs.comparer.list_positions.Goals.{then-differ_at, else-differ_at}
 
@@ -18,4 +20,6 @@ loop-position-preserved c = elim c.if-differ_at.branch [
 
 pub returns : goal.returns
 unfolding differing
-returns c = rw (← longer_is c.args.golden.now c.args.radio.now, ← c.max-end.ensures) (going_end _ _ _ _ _ _ c.loop-position.invariant c.loop-position-test.false)
+returns c =
+    let end : c.max-end.result ≡ longer c.args.golden.now c.args.radio.now = grind (arith, nat_tests) in
+    rw (← end) (going_end _ _ _ _ _ _ c.loop-position.invariant c.loop-position-test.false)
