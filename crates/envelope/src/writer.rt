@@ -174,7 +174,7 @@ fn put_end(buffer: &mut [u8], place: usize, end: &[u8]) -> usize
 }
 
 // Copies a part into the buffer from a place, and answers the place after it.
-// Always inlined, and nothing done for an empty part: most parts are of a known size, and then there is no call.
+// Always inlined, and nothing done for an empty part: of that, and of a part of a known size, there is no call of a copy.
 #[inline(always)]
 fn put(buffer: &mut [u8], place: usize, part: &[u8]) -> usize
     requires { place + length part.now ≤ length buffer.old }

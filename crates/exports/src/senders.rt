@@ -81,7 +81,7 @@ pub fn morlewen_sender_flight(numbers: &[u64; BESIDE]) -> u64
 }
 
 // An event: the bench out of its numbers, and back into them.
-// Always inlined: each caller knows which event it is, and by a call that and the bench go through memory and jump tables.
+// Always inlined: each caller knows which event it is. By a call it and the bench go through memory and jump tables.
 #[inline(always)]
 fn take(waiting: &mut [u32; Bench::PLACES], numbers: &mut [u64; BESIDE], event: Event) -> u64
     ensures { AnswersForC (told_event event) (sender_lent waiting.old numbers.old) result (sender_lent waiting.new numbers.new) }

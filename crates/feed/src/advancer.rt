@@ -31,7 +31,7 @@ fn grow(kept: &mut [u8; Feed::ROOM], count: usize, piece: &[u8]) -> Step
     requires { (count < room) × (0 < length piece.now) }
     ensures { told_step result kept.new ≡ taking (opened kept.old count) piece.now }
 {
-    // fewer announce nothing yet: not asked twice for a piece of one byte
+    // fewer announce nothing yet, and `through_heading` asks again
     if Envelope::HEADER_SIZE <= count {
         match announced(&kept[..count]) {
             Ok(Some(whole)) if count < whole => return fill(kept, count, whole, 0, piece),
