@@ -43,15 +43,12 @@ impl Filling {
     }
 }
 
-// Fills a template in from the beginning of a page; the answer is how many bytes that takes. What finds no room is left out.
-pub fn fill(page: &mut [u8], template: &[u8], numbers: &[u64], lent: &[u8]) -> usize
+// Fills a template in behind the bytes that a page has; the answer is how many it has then. What finds no room is left out.
+pub fn fill(page: &mut [u8], size: usize, template: &[u8], numbers: &[u64], lent: &[u8]) -> usize
     ensures { IsPrefixLen result page.new }
 {
     let room = page.len();
-    let mut page = Page {
-        bytes: page,
-        size: 0,
-    };
+    let mut page = Page { bytes: page, size };
     let mut filling = Filling {
         next: 0,
         wanted: 0,

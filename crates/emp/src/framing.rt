@@ -164,7 +164,7 @@ fn put_frame(
     match wrapped {
         Ok(size) => {
             let whole = Part { place: 0, size };
-            teller.put(whole.slice(buffer))
+            teller.put(whole.slice(buffer), Status::Done)
         }
         Err(refusal) => refuse_message(teller, What::ToBeMade, refusal),
     }

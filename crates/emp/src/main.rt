@@ -20,11 +20,12 @@ mod sending;
 mod watching;
 
 use crate::golden_files::GoldenFile;
+use console::table::{piece, row};
 use golden::Name;
 use std::io::Input;
 use std::rt::{Env, Files};
-use wording::arguments::Given;
-use wording::commands::{Command, Named, Numbers, Verb, command_of, unknown_option};
+use wording::arguments::{Given, OPTIONS};
+use wording::commands::{COMMANDS, Command, Named, Numbers, TAB, Verb, command_of, unknown_option};
 use wording::files::{MOST, ROOM, file_at};
 use wording::telling::complain;
 use wording::{Row, Teller, Told, helping, status};
@@ -35,7 +36,7 @@ fn main(rt: HostRuntime) {
 }
 
 fn run(rt: &(impl Env + Files + Input + Print + Eprint)) -> Told {
-    let given = Given::by(rt);
+    let given = Given::by(rt, OPTIONS);
     let helper = Teller {
         rt,
         manner: given.manner_of_help(),
@@ -44,7 +45,7 @@ fn run(rt: &(impl Env + Files + Input + Print + Eprint)) -> Told {
         return Err(complain(rt, Row::LongWord, b"", b""));
     }
     if let Some(argument) = given.unknown {
-        return Err(unknown_option(rt, argument));
+        return Err(unknown_option(rt, OPTIONS, argument));
     }
     if given.version {
         return helping::version(&helper);
@@ -54,16 +55,22 @@ fn run(rt: &(impl Env + Files + Input + Print + Eprint)) -> Told {
     };
     let verb = Verb::named(rt, *name)?;
     if given.help {
-        return helping::help_for(&helper, verb);
+        return helping::help_for(&helper, line_of(verb), true);
     }
-    let command = command_of(rt, verb, &given)?;
+    let form = piece(line_of(verb), TAB, 0);
+    let command = command_of(rt, form, verb, &given)?;
     let manner = given.manner();
     answer(&Teller { rt, manner }, command)
 }
 
+// The row of a verb in the table of commands.
+fn line_of(verb: Verb) -> &'static [u8] {
+    row(COMMANDS, verb as usize)
+}
+
 fn without_names(helper: &Teller<'_, impl Print + Eprint>, help: bool) -> Told {
     if help {
-        return helping::help(helper);
+        return helping::help(helper, COMMANDS);
     }
     Err(complain(helper.rt, Row::NoCommand, b"", b""))
 }
@@ -86,9 +93,9 @@ fn help_on(teller: &Teller<'_, impl Env + Print + Eprint>, named: Option<Named>)
     match named {
         Some(named) => {
             let verb = Verb::named(teller.rt, named.first)?;
-            helping::help_for(teller, verb)
+            helping::help_for(teller, line_of(verb), true)
         }
-        None => helping::help(teller),
+        None => helping::help(teller, COMMANDS),
     }
 }
 

@@ -18,7 +18,7 @@ pub fn sum_file(teller: &Teller<'_, impl Print + Eprint>, file: &[u8]) -> Told {
 pub fn make_record(teller: &Teller<'_, impl Print + Eprint>, message: &[u8]) -> Told {
     let mut record = [0u8; Record::SIZE];
     match make(message, &mut record) {
-        Ok(()) => teller.put(&record),
+        Ok(()) => teller.put(&record, Status::Done),
         Err(refusal) => refuse_message(teller, What::ToBeMade, refusal),
     }
 }
@@ -28,7 +28,7 @@ pub fn retire_record(teller: &Teller<'_, impl Print + Eprint>, file: &[u8], reco
     let mut buffer = [0u8; Record::LARGEST_FILE];
     let copy = &mut buffer[..file.len().min(Record::LARGEST_FILE)];
     match retire(file, record, copy) {
-        Ok(()) => teller.put(copy),
+        Ok(()) => teller.put(copy, Status::Done),
         Err(refusal) => {
             let message = stored_message(file, record);
             let of = Subject {

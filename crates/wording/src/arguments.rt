@@ -1,5 +1,5 @@
 // The words that the tool is called with: options, and names, of which the first is the command's.
-// Rests on std's `env`.
+// Rests on std's `env`; the options are a table that is lent.
 ghost use Rattle.std.specs.Prelude.{◌≡◌, ◌≤◌, cond, length};
 
 use crate::rows::NoRow;
@@ -9,15 +9,15 @@ use console::table::row_named;
 use std::env::{Env, FillError};
 
 // The most names that a command takes, its own among them.
-const NAMES: usize = 4;
+pub const NAMES: usize = 4;
 
 // The most bytes of a word that are taken.
 pub(crate) const WORD: usize = 4_096;
 
-pub(crate) const BLANK: u8 = b' ';
+pub const BLANK: u8 = b' ';
 
 // One row for each switch, in their order.
-pub(crate) const OPTIONS: &[u8] = b"--plain\n-q\n--help\n-h\n--version\n--\n--halving\n";
+pub const OPTIONS: &[u8] = b"--plain\n-q\n--help\n-h\n--version\n--\n--halving\n";
 
 #[derive(Clone, Copy)]
 enum Switch {
@@ -48,8 +48,8 @@ impl TryFrom<usize> for Switch {
 }
 
 impl Switch {
-    fn named(word: &[u8]) -> Result<Switch, NoRow> {
-        let row = row_named(OPTIONS, BLANK, word).ok_or(NoRow)?;
+    fn named(options: &[u8], word: &[u8]) -> Result<Switch, NoRow> {
+        let row = row_named(options, BLANK, word).ok_or(NoRow)?;
         Switch::try_from(row)
     }
 }
@@ -66,15 +66,15 @@ pub struct Given {
     pub unknown: Option<usize>,
     // an argument of more bytes than are taken
     pub too_long: bool,
-    names_alone: bool,
-    // fixed memory: the first of the names, and how many there are
-    names: [usize; NAMES],
-    count: usize,
+    pub names_alone: bool,
+    // fixed memory: the places of the first of the names, and how many names there are, be there more than any command takes
+    pub places: [usize; NAMES],
+    pub count: usize,
 }
 
 impl Given {
     // Reads every argument.
-    pub fn by(rt: &impl Env) -> Given {
+    pub fn by(rt: &impl Env, options: &[u8]) -> Given {
         let mut given = Given {
             plain: false,
             quiet: false,
@@ -84,14 +84,14 @@ impl Given {
             unknown: None,
             too_long: false,
             names_alone: false,
-            names: [0; NAMES],
+            places: [0; NAMES],
             count: 0,
         };
         let mut word = [0u8; WORD];
         // by their places: std's `args` takes the heap
         for argument in 1..usize::MAX {
             match rt.arg(argument, &mut word) {
-                Ok(size) => given.take(argument, &word[..size]),
+                Ok(size) => given.take(options, argument, &word[..size]),
                 Err(FillError::TooLong) => given.too_long = true,
                 Err(FillError::NotPresent) => break,
             }
@@ -99,12 +99,12 @@ impl Given {
         given
     }
 
-    fn take(&mut self, argument: usize, word: &[u8]) {
+    fn take(&mut self, options: &[u8], argument: usize, word: &[u8]) {
         if self.names_alone || is_name(word) {
             self.take_name(argument);
             return;
         }
-        match Switch::named(word) {
+        match Switch::named(options, word) {
             Ok(switch) => self.turn_on(switch),
             Err(NoRow) => self.unknown = self.unknown.or(Some(argument)),
         }
@@ -112,7 +112,7 @@ impl Given {
 
     fn take_name(&mut self, argument: usize) {
         if self.count < NAMES {
-            self.names[self.count] = argument;
+            self.places[self.count] = argument;
         }
         self.count = self.count.wrapping_add(1);
     }
@@ -147,16 +147,11 @@ impl Given {
         Manner::Words
     }
 
-    // How many names there are, be there more than any command takes.
-    pub(crate) fn count(&self) -> usize {
-        self.count
-    }
-
-    // The names, no more than a command takes.
+    // The places of the names, no more than a command takes.
     pub fn names(&self) -> &[usize]
         ensures { length result.now ≤ NAMES }
     {
-        &self.names[..self.count.min(NAMES)]
+        &self.places[..self.count.min(NAMES)]
     }
 }
 

@@ -1,8 +1,8 @@
 // A command with its numbers, out of the words that the tool is called with, before any file is opened.
-// Rests on `console` for tables and numbers, and on `arguments`.
+// Rests on `console` for tables and numbers, and on `arguments`. A verb goes by the table here; a row goes by one that is lent.
 ghost use Rattle.wording.specs.Verbs.{VerbOfRow};
 
-use crate::arguments::{BLANK, Given, OPTIONS, WORD, word_at};
+use crate::arguments::{BLANK, Given, WORD, word_at};
 use crate::rows::{NoRow, Row};
 use crate::status::{Complained, Told};
 use crate::telling::complain;
@@ -12,7 +12,7 @@ use console::nearest::nearest;
 use console::table::{piece, pieces, row, row_named};
 use std::env::Env;
 
-pub(crate) const TAB: u8 = b'\t';
+pub const TAB: u8 = b'\t';
 
 // What a command does: the rows of the table of commands, in their order.
 #[derive(Clone, Copy, PartialEq, Eq)]
@@ -64,7 +64,7 @@ impl TryFrom<usize> for Verb {
 }
 
 // One row for each verb: its form, what it does, and what it tells plainly.
-pub(crate) const COMMANDS: &[u8] =
+pub const COMMANDS: &[u8] =
     b"list GOLDEN\tevery record: its type, number and length and whether it is retired, or its refusal\tgood RECORD TYPE NUMBER LENGTH, and the word retired behind these where it is, or refused RECORD REFUSAL READING PLACE FILE-PLACE
 check GOLDEN\tthe count of records, which are retired and whether they stand in ascending order of type, then number, or the first that is bad or is live and has the type and number of an earlier live one\tgood COUNT RETIRED, which is how many are retired, and then the number of each, with a second line, ascending or breaks RECORD; or else refused RECORD REFUSAL READING PLACE FILE-PLACE, and with 26 the EARLIER record behind these
 find GOLDEN TYPE NUMBER\tthe first live record of that type and number, and how many were opened; with --halving the record that at most eight openings lead to\tfound RECORD OPENED, or refused RECORD OPENED REFUSAL READING PLACE FILE-PLACE, and with 27, but not by halving, retired RECORD where a retired one has them; by halving RECORD and FILE-PLACE of a refusal are -
@@ -110,8 +110,8 @@ pub struct Numbers {
 
 // A command, with the numbers and the files where it takes any.
 #[derive(Clone, Copy)]
-pub struct Command {
-    pub verb: Verb,
+pub struct Command<V = Verb> {
+    pub verb: V,
     pub halving: bool,
     pub numbers: Option<Numbers>,
     pub files: Option<Named>,
@@ -128,70 +128,75 @@ struct Taken {
 impl Verb {
     // By its name, or the complaint that there is none.
     pub fn named(rt: &(impl Env + Print + Eprint), argument: usize) -> Told<Verb> {
-        let mut room = [0u8; WORD];
-        let word = word_at(rt, argument, &mut room);
-        Verb::of_word(word).map_err(|_| {
-            let near = piece(nearest_row(COMMANDS, word), BLANK, 0);
-            complain(rt, Row::UnknownCommand, word, near)
-        })
-    }
-
-    fn of_word(word: &[u8]) -> Result<Verb, NoRow> {
-        let row = row_named(COMMANDS, BLANK, word).ok_or(NoRow)?;
-        Verb::try_from(row)
-    }
-
-    // Its row of the table of commands.
-    pub(crate) fn line(self) -> &'static [u8] {
-        row(COMMANDS, self as usize)
+        let row = row_of(rt, COMMANDS, argument)?;
+        // each row of this table has its verb: this is never told
+        Verb::try_from(row).map_err(|_| complain(rt, Row::NoCommand, b"", b""))
     }
 }
 
-pub fn unknown_option(rt: &(impl Env + Print + Eprint), argument: usize) -> Complained {
+// The row of a command's name in a table, which is lent since it may be another one; or the complaint that there is none.
+pub fn row_of(rt: &(impl Env + Print + Eprint), commands: &[u8], argument: usize) -> Told<usize> {
     let mut room = [0u8; WORD];
     let word = word_at(rt, argument, &mut room);
-    complain(rt, Row::UnknownOption, word, nearest_row(OPTIONS, word))
+    row_named(commands, BLANK, word).ok_or_else(|| {
+        let near = piece(nearest_row(commands, word), BLANK, 0);
+        complain(rt, Row::UnknownCommand, word, near)
+    })
 }
 
-fn nearest_row(table: &'static [u8], word: &[u8]) -> &'static [u8] {
+pub fn unknown_option(
+    rt: &(impl Env + Print + Eprint),
+    options: &[u8],
+    argument: usize,
+) -> Complained {
+    let mut room = [0u8; WORD];
+    let word = word_at(rt, argument, &mut room);
+    complain(rt, Row::UnknownOption, word, nearest_row(options, word))
+}
+
+fn nearest_row<'a>(table: &'a [u8], word: &[u8]) -> &'a [u8] {
     nearest(table, BLANK, word).map_or(&[], |k| row(table, k))
 }
 
-// The command of a verb, where there are as many words as in its form, each of its kind.
-pub fn command_of(rt: &(impl Env + Print + Eprint), verb: Verb, given: &Given) -> Told<Command> {
-    let form = piece(verb.line(), TAB, 0);
-    match misfit(form, verb, given) {
+// The command of a form, where there are as many words as in it, each of its kind. The form may be that of no verb here.
+pub fn command_of<V: Copy + Into<Option<Verb>>>(
+    rt: &(impl Env + Print + Eprint),
+    form: &[u8],
+    verb: V,
+    given: &Given,
+) -> Told<Command<V>> {
+    match misfit(form, verb.into(), given) {
         Some(row) => Err(complain(rt, row, form, form)),
         None => with_arguments(rt, form, verb, given),
     }
 }
 
 // What is wrong with the words of a command, before any of them is read.
-fn misfit(form: &[u8], verb: Verb, given: &Given) -> Option<Row> {
+fn misfit(form: &[u8], verb: Option<Verb>, given: &Given) -> Option<Row> {
     let most = pieces(form, BLANK);
     let least = most.saturating_sub(usize::from(form.ends_with(b"]")));
-    if most < given.count() {
+    if most < given.count {
         return Some(Row::TooManyWords);
     }
-    if given.count() < least {
+    if given.count < least {
         return Some(Row::TooFewWords);
     }
-    if given.quiet && verb != Verb::Check && verb != Verb::Compare {
+    if given.quiet && verb != Some(Verb::Check) && verb != Some(Verb::Compare) {
         return Some(Row::NotQuiet);
     }
-    if given.halving && verb != Verb::Find {
+    if given.halving && verb != Some(Verb::Find) {
         return Some(Row::NotHalving);
     }
     None
 }
 
-fn with_arguments(
+fn with_arguments<V: Copy + Into<Option<Verb>>>(
     rt: &(impl Env + Print + Eprint),
     form: &[u8],
-    verb: Verb,
+    verb: V,
     given: &Given,
-) -> Told<Command> {
-    let taken = take_all(rt, form, verb, given.names())?;
+) -> Told<Command<V>> {
+    let taken = take_all(rt, form, verb.into(), given.names())?;
     if 1 < taken.inputs {
         return Err(complain(rt, Row::OneInput, form, form));
     }
@@ -207,13 +212,13 @@ fn with_arguments(
 fn take_all(
     rt: &(impl Env + Print + Eprint),
     form: &[u8],
-    verb: Verb,
+    verb: Option<Verb>,
     names: &[usize],
 ) -> Told<Taken> {
     let mut taken = Taken {
         numbers: None,
         files: None,
-        inputs: usize::from(verb == Verb::Watch),
+        inputs: usize::from(verb == Some(Verb::Watch)),
     };
     for (k, argument) in names.iter().enumerate().skip(1) {
         taken.take(rt, piece(form, BLANK, k), *argument)?;

@@ -40,6 +40,7 @@ fn failed(rt: &impl Eprint, name: &[u8], fault: TakeFault) -> Complained {
     let mut page = [0u8; PAGE];
     let size = fill(
         &mut page,
+        0,
         b"emp: cannot {open|read} '^'",
         &[reading, 0, SHOWN],
         name,

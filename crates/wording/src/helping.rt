@@ -1,7 +1,7 @@
 // Help: a command's form and what it does, or every command, option, exit status and refusal; and the version.
-// Rests on the table of commands.
+// Rests on the table of commands, which is lent.
 use crate::arguments::filled;
-use crate::commands::{COMMANDS, TAB, Verb};
+use crate::commands::TAB;
 use crate::rows::Row;
 use crate::status::{Status, Told};
 use crate::telling::{Manner, PAGE, Teller};
@@ -40,13 +40,8 @@ Exit status
 Refusals
 ";
 
-// One command: its form, what it does, and the lines that it tells plainly.
-pub fn help_for(teller: &Teller<'_, impl Print + Eprint>, verb: Verb) -> Told {
-    tell_command(teller, verb.line(), true)
-}
-
-// By its row of the table.
-fn tell_command(teller: &Teller<'_, impl Print + Eprint>, line: &[u8], whole: bool) -> Told {
+// One command, by its row of the table: its form, what it does, and, where the whole is wanted, the lines that it tells plainly.
+pub fn help_for(teller: &Teller<'_, impl Print + Eprint>, line: &[u8], whole: bool) -> Told {
     let form = piece(line, TAB, 0).len();
     let does = piece(line, TAB, 1).len();
     let behind_form = form.wrapping_add(1);
@@ -67,26 +62,26 @@ fn tell_command(teller: &Teller<'_, impl Print + Eprint>, line: &[u8], whole: bo
     )
 }
 
-pub fn help(teller: &Teller<'_, impl Print + Eprint>) -> Told {
+pub fn help(teller: &Teller<'_, impl Print + Eprint>, commands: &[u8]) -> Told {
     match teller.manner {
-        Manner::Words => help_in_words(teller),
-        _ => list_commands(teller),
+        Manner::Words => help_in_words(teller, commands),
+        _ => list_commands(teller, commands),
     }
 }
 
-fn help_in_words(teller: &Teller<'_, impl Print + Eprint>) -> Told {
-    teller.put(INTRODUCTION)?;
-    list_commands(teller)?;
-    teller.put(REST)?;
+fn help_in_words(teller: &Teller<'_, impl Print + Eprint>, commands: &[u8]) -> Told {
+    teller.put(INTRODUCTION, ())?;
+    list_commands(teller, commands)?;
+    teller.put(REST, ())?;
     teller.list_refusals()
 }
 
-fn list_commands(teller: &Teller<'_, impl Print + Eprint>) -> Told {
-    for line in COMMANDS.split(|byte| *byte == b'\n') {
+fn list_commands(teller: &Teller<'_, impl Print + Eprint>, commands: &[u8]) -> Told {
+    for line in commands.split(|byte| *byte == b'\n') {
         if line.is_empty() {
             break;
         }
-        tell_command(teller, line, false)?;
+        help_for(teller, line, false)?;
     }
     Ok(Status::Done)
 }

@@ -33,15 +33,16 @@ pub enum Whole {
     Record,
 }
 
+// What a refusal is of. Either may be lent as an Option, and be none.
 #[derive(Clone, Copy)]
-pub struct Subject {
-    pub what: What,
-    pub whole: Whole,
+pub struct Subject<W = What, H = Whole> {
+    pub what: W,
+    pub whole: H,
 }
 
-impl Subject {
+impl<W> Subject<W> {
     // A message by itself, or one that something was to be made of.
-    pub fn by_itself(what: What) -> Subject {
+    pub fn by_itself(what: W) -> Subject<W> {
         Subject {
             what,
             whole: Whole::Nothing,
@@ -86,6 +87,14 @@ impl From<Whole> for Choice {
 }
 
 impl Choice {
+    // Where no kind is named nothing is shown of it: no template has so many choices.
+    fn of<K>(kind: Option<K>) -> Choice
+    where
+        Choice: From<K>,
+    {
+        kind.map_or(Choice::new(u64::MAX, 0, 0), Choice::from)
+    }
+
     fn new(choice: u64, number: u64, further: u64) -> Choice {
         Choice {
             choice,
@@ -138,16 +147,23 @@ const REFUSALS: &[u8] = b"1\tfewer than 21 bytes
 
 impl<R: Print + Eprint> Teller<'_, R> {
     // A refusal by its number, that of reading, or 0, and the place in the message.
-    pub fn refuse(&self, of: Subject, refusal: u8, reading: u8, place: usize) -> Told {
+    pub fn refuse(
+        &self,
+        of: Subject<impl Into<Option<What>>, impl Into<Option<Whole>>>,
+        refusal: u8,
+        reading: u8,
+        place: usize,
+    ) -> Told {
         let rule = rule_of(refusal, reading);
-        let what = Choice::from(of.what);
-        let whole = Choice::from(whole_of(rule, of.whole));
+        let of_what = of.what.into();
+        let what = Choice::of(of_what);
+        let whole = Choice::of(whole_of(rule, of.whole.into()));
         let place = place as u64;
         let in_whole = whole.number.wrapping_add(place);
         let (choice, number, further) = (what.choice, what.number, what.further);
         self.tell_to(
-            stream_for(of.what),
-            Row::Refused,
+            stream_for(of_what),
+            Some(Row::Refused),
             &[
                 choice,
                 number,
@@ -184,9 +200,9 @@ impl<R: Print + Eprint> Teller<'_, R> {
 }
 
 // Where something was to be made, standard output is for its bytes.
-fn stream_for(what: What) -> To {
+fn stream_for(what: Option<What>) -> To {
     match what {
-        What::ToBeMade => To::Errors,
+        Some(What::ToBeMade) => To::Errors,
         _ => To::Output,
     }
 }
@@ -202,10 +218,10 @@ fn rule_of(refusal: u8, reading: u8) -> Option<u8> {
 }
 
 // Without a place in the message there is none in what it is part of.
-fn whole_of(rule: Option<u8>, whole: Whole) -> Whole {
+fn whole_of(rule: Option<u8>, whole: Option<Whole>) -> Option<Whole> {
     match whole {
-        Whole::Nothing => whole,
-        _ if rule.is_none() => Whole::Other,
+        Some(Whole::Nothing) => whole,
+        _ if rule.is_none() => Some(Whole::Other),
         _ => whole,
     }
 }

@@ -71,7 +71,7 @@ struct Sides<'a, R> {
 struct Line<'a, R> {
     sides: &'a Sides<'a, R>,
     place: usize,
-    marks: &'a Marks<ROW>,
+    marks: &'a [Option<Mark>],
     first: Option<u8>,
 }
 
@@ -81,7 +81,7 @@ pub fn show_difference(
     golden: &[u8],
     radio: &[u8],
     total: usize,
-    marks: &Marks<PLACES>,
+    marks: &[Option<Mark>],
 ) -> Told {
     let sides = Sides {
         teller,
@@ -105,8 +105,9 @@ pub fn show_marked<'a>(
     teller: &'a Teller<'_, impl Print + Eprint>,
     message: &'a [u8],
     place: usize,
-    mark: Mark,
+    mark: impl Into<Option<Mark>>,
 ) -> Told {
+    let mark = mark.into();
     let sides = Sides {
         teller,
         golden: message,
@@ -120,35 +121,36 @@ pub fn show_marked<'a>(
     sides.show_beyond(place, mark)
 }
 
-fn marks_with(place: usize, mark: Mark) -> Marks<PLACES> {
+fn marks_with(place: usize, mark: Option<Mark>) -> Marks<PLACES> {
     let mut marks = [None; PLACES];
     if place < PLACES {
-        marks[place] = Some(mark);
+        marks[place] = mark;
     }
     marks
 }
 
 impl<R: Print + Eprint> Sides<'_, R> {
-    fn show_beyond(&self, place: usize, mark: Mark) -> Told {
+    fn show_beyond(&self, place: usize, mark: Option<Mark>) -> Told {
         let column = place % ROW;
         let row = place - column;
         let mut marks = [None; ROW];
-        marks[column] = Some(mark);
+        marks[column] = mark;
         self.show_more(PLACES, row, 0)?;
         self.show_row(row, &marks)?;
         self.show_more(row.wrapping_add(ROW), self.golden.len(), 0)
     }
 
-    fn show_rows(&self, marks: &Marks<PLACES>) -> Told {
-        let (rows, _) = marks.as_chunks::<ROW>();
-        for (k, row) in rows.iter().enumerate() {
-            self.show_row(k * ROW, row)?;
+    // Marks beyond these rows are not shown, and there may be fewer.
+    fn show_rows(&self, marks: &[Option<Mark>]) -> Told {
+        let mut rows = marks.chunks(ROW);
+        for place in (0..PLACES).step_by(ROW) {
+            self.show_row(place, rows.next().unwrap_or(&[]))?;
         }
         Ok(Status::Refused)
     }
 
     // The row that begins at a place, by its own marks.
-    fn show_row(&self, place: usize, marks: &Marks<ROW>) -> Told {
+    fn show_row(&self, place: usize, marks: &[Option<Mark>]) -> Told {
         let first = first_named(marks);
         let radio = self.radio.unwrap_or(&[]);
         if self.golden.len() <= place && radio.len() <= place && first.is_none() {
@@ -176,7 +178,7 @@ impl<R: Print + Eprint> Sides<'_, R> {
     }
 
     // The differing places that are shown.
-    fn show_places(&self, marks: &Marks<PLACES>) -> Told {
+    fn show_places(&self, marks: &[Option<Mark>]) -> Told {
         for (place, mark) in marks.iter().enumerate() {
             if let Some(mark) = mark {
                 self.show_place(place, *mark)?;
@@ -220,9 +222,10 @@ impl<R> Line<'_, R> {
 
     fn put_cells(&self, message: Option<&[u8]>, numbers: &mut [u64]) {
         let (cells, _) = numbers.as_chunks_mut::<CELL_NUMBERS>();
-        for (column, (cell, mark)) in cells.iter_mut().zip(self.marks).enumerate() {
+        for (column, cell) in cells.iter_mut().enumerate() {
             let place = self.place.wrapping_add(column);
-            *cell = cell_numbers(message, place, mark.is_some());
+            let marked = self.marks.get(column).is_some_and(|mark| mark.is_some());
+            *cell = cell_numbers(message, place, marked);
         }
     }
 
@@ -269,11 +272,11 @@ pub fn byte_at(bytes: &[u8], place: usize) -> u8
 }
 
 // The first of the fields that a row names.
-fn first_named(marks: &Marks<ROW>) -> Option<u8> {
+fn first_named(marks: &[Option<Mark>]) -> Option<u8> {
     (0..FIELDS).find(|order| is_named(marks, *order))
 }
 
 // Whether a place of the row is marked by a field.
-fn is_named(marks: &Marks<ROW>, order: u8) -> bool {
+fn is_named(marks: &[Option<Mark>], order: u8) -> bool {
     marks.iter().flatten().any(|mark| u8::from(*mark) == order)
 }

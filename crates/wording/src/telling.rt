@@ -1,7 +1,7 @@
 // Every answer of the tool as a template, in words and plainly, and the complaints of its words and files. A template goes by its row.
 // Rests on `console`, which fills a template in. What is told is made whole and then written in one call; a complaint is told by halves.
 use crate::rows::Row;
-use crate::status::{Complained, Status, Told};
+use crate::status::{Complained, Told};
 use console::errors;
 use console::filling::fill;
 use console::table::piece;
@@ -147,31 +147,44 @@ place   golden                            radio                           differ
 \0";
 
 impl<R: Print + Eprint> Teller<'_, R> {
-    // An answer, or a part of one, on standard output; the status, unless it could not be written. `lent` is what the template's marks for text speak of.
-    pub fn tell(&self, status: Status, row: Row, numbers: &[u64], lent: &[u8]) -> Told {
-        self.tell_to(To::Output, row, numbers, lent)?;
-        Ok(status)
+    // An answer, or a part of one, on standard output; gives `then`, unless it could not be written. `lent` is what the template's marks for text speak of.
+    pub fn tell<S: Drop>(
+        &self,
+        then: S,
+        row: impl Into<Option<Row>>,
+        numbers: &[u64],
+        lent: &[u8],
+    ) -> Told<S> {
+        self.tell_to(To::Output, row.into(), numbers, lent)?;
+        Ok(then)
     }
 
-    pub(crate) fn tell_to(&self, to: To, row: Row, numbers: &[u64], lent: &[u8]) -> Told<()> {
+    pub(crate) fn tell_to(
+        &self,
+        to: To,
+        row: Option<Row>,
+        numbers: &[u64],
+        lent: &[u8],
+    ) -> Told<()> {
         match half_of(self.manner, row) {
             Some(half) => put_half(self.rt, to, half, numbers, lent),
             None => Ok(()),
         }
     }
 
-    // Bytes on standard output.
-    pub fn put(&self, bytes: &[u8]) -> Told {
+    // Bytes on standard output; gives `then`, unless they could not be written.
+    pub fn put<S: Drop>(&self, bytes: &[u8], then: S) -> Told<S> {
         put_on(self.rt, To::Output, bytes)?;
-        Ok(Status::Done)
+        Ok(then)
     }
 }
 
-// Which half of all: none, where only the status is wanted.
-fn half_of(manner: Manner, row: Row) -> Option<usize> {
+// Which half of all: none, where only the status is wanted, or no row is named.
+fn half_of(manner: Manner, row: Option<Row>) -> Option<usize> {
+    let row = row? as usize;
     match manner {
-        Manner::Words => Some(2 * row as usize),
-        Manner::Plain => Some(2 * row as usize + 1),
+        Manner::Words => Some(2 * row),
+        Manner::Plain => Some(2 * row + 1),
         Manner::Quiet => None,
     }
 }
@@ -185,7 +198,7 @@ fn put_half(
 ) -> Told<()> {
     let mut page = [0u8; PAGE];
     let template = piece(TEMPLATES, HALF_END, half);
-    let size = fill(&mut page, template, numbers, lent);
+    let size = fill(&mut page, 0, template, numbers, lent);
     put_on(rt, to, &page[..size])
 }
 
@@ -204,7 +217,13 @@ fn write(rt: &(impl Print + Eprint), to: To, bytes: &[u8]) -> Result<()> {
 }
 
 // One line on standard error: the one half of a complaint with a text in it, and then the other with another.
-pub fn complain(rt: &(impl Print + Eprint), row: Row, text: &[u8], other: &[u8]) -> Complained {
+pub fn complain(
+    rt: &(impl Print + Eprint),
+    row: impl Into<Option<Row>>,
+    text: &[u8],
+    other: &[u8],
+) -> Complained {
+    let row = row.into();
     let front = [0, SHOWN];
     let manner = Manner::Words;
     let _ = Teller { rt, manner }.tell_to(To::Errors, row, &front, text);
